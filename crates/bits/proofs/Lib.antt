@@ -1,0 +1,10 @@
+pub mod Digit
+pub mod Sets
+pub mod Complement
+pub mod Count
+pub mod Forms
+pub mod Intel
+pub mod Pext
+pub mod Least
+pub mod Turn
+pub mod Halves
