@@ -9,7 +9,7 @@ use native.Mathlib.Decide.{decLt}
 use lib.Arith.{le-zero}
 use lib.Pow.{pow-pos}
 use lib.Count.{ones, ones-cat}
-use Rattle.bits.specs.Set.{bit, countBelow}
+use Rattle.bits.specs.Set.{bit, countBelow, count}
 use Rattle.bits.proofs.Digit.{bit-lt, over, mod-more}
 
 count-mono : (m t n : ℕ) → t ≤ n → countBelow m t ≤ countBelow m n
@@ -58,6 +58,7 @@ count-ones-mod m (suc n) =
     ∙ sym (ones-cat n (bit m n) (m % 2 ^ n) (mod-lt m (pow-pos n)))
     ∙ ap ones (sym (mod-more m n))
 
--- `ones` does not compute on a word; the count below 64 does
-pub count-ones : (m : ℕ) → m < 2 ^ 64 → countBelow m 64 ≡ ones m
+-- `ones` does not compute on a word; `count` does
+pub count-ones : (m : ℕ) → m < 2 ^ 64 → count m ≡ ones m
+unfolding count
 count-ones m h = count-ones-mod m 64 ∙ ap ones (mod-eq-of-lt h)

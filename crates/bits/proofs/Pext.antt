@@ -6,17 +6,17 @@ use Prim.Native.Nat.{ℕ, zero, suc, _+_, _%_, _^_, _≤_, _<_, min}
 use native.Mathlib.Nat.{lt-of-le-of-lt, mod-eq-of-lt, min-comm, zero-min}
 use lib.Dec.{eqb}
 use lib.Bits.{bitAnd, and-le-l}
-use lib.Count.{ones}
-use Rattle.bits.specs.Set.{bit, has, countBelow}
+use Rattle.bits.specs.Set.{bit, has, countBelow, count}
 use Rattle.bits.specs.Intel.{pext, pdep}
 use Rattle.bits.proofs.Digit.{bit-lt, over, ext}
 use Rattle.bits.proofs.Sets.{two, bit-and, has-and, has-ext}
-use Rattle.bits.proofs.Count.{count-ones, nth}
+use Rattle.bits.proofs.Count.{nth}
 use Rattle.bits.proofs.Forms.{packed, spread, packed-lt, bit-packed, packed-spread, spread-lt, bit-spread}
 use Rattle.bits.proofs.Intel.{pext-is, pdep-is}
 
-pub extract-lt : (x m : ℕ) → m < 2 ^ 64 → pext x m < 2 ^ ones m
-extract-lt x m h = subst (λ (n : ℕ). n < 2 ^ ones m) (sym (pext-is x m)) (subst (λ (k : ℕ). packed 64 x m < 2 ^ k) (count-ones m h) (packed-lt 64 x m))
+pub extract-lt : (x m : ℕ) → pext x m < 2 ^ count m
+unfolding count
+extract-lt x m = subst (λ (n : ℕ). n < 2 ^ countBelow m 64) (sym (pext-is x m)) (packed-lt 64 x m)
 
 pub deposit-lt : (i m : ℕ) → pdep i m < 2 ^ 64
 deposit-lt i m = subst (λ (n : ℕ). n < 2 ^ 64) (sym (pdep-is i m)) (spread-lt 64 i m)
@@ -41,10 +41,10 @@ pub deposit-nth : (i m j t : ℕ) → t < 64 → has m t ≡ true → countBelow
 deposit-nth i m j t h e q = has-deposit i m t h ∙ ap (λ (b : Bool). b && has i (countBelow m t)) e ∙ ap (has i) q
 
 -- and there is one for each j below the mask's count
-pub nth-square : (m j : ℕ) → m < 2 ^ 64 → j < ones m → (t : ℕ) × (t < 64) × (has m t ≡ true) × (countBelow m t ≡ j)
-unfolding has
-nth-square m j h l =
-    let r = nth m 64 j (subst (λ (n : ℕ). j < n) (sym (count-ones m h)) l) in
+pub nth-square : (m j : ℕ) → j < count m → (t : ℕ) × (t < 64) × (has m t ≡ true) × (countBelow m t ≡ j)
+unfolding has count
+nth-square m j l =
+    let r = nth m 64 j l in
     (r .0, r .1, ap (λ (n : ℕ). eqb n 1) (r .2), r .3)
 
 -- a deposit lies in its mask
@@ -59,9 +59,9 @@ deposit-in i m =
     within false b = refl
 
 -- extract after deposit
-pub extract-deposit : (i m : ℕ) → m < 2 ^ 64 → pext (pdep i m) m ≡ i % 2 ^ ones m
-extract-deposit i m h =
-    pext-is (pdep i m) m ∙ packed-spread 64 (pdep i m) m i (bit-deposit i m) ∙ ap (λ (k : ℕ). i % 2 ^ k) (count-ones m h)
+pub extract-deposit : (i m : ℕ) → pext (pdep i m) m ≡ i % 2 ^ count m
+unfolding count
+extract-deposit i m = pext-is (pdep i m) m ∙ packed-spread 64 (pdep i m) m i (bit-deposit i m)
 
 -- deposit after extract
 pub deposit-extract : (x m : ℕ) → x < 2 ^ 64 → pdep (pext x m) m ≡ bitAnd x m
@@ -78,6 +78,6 @@ deposit-extract x m h =
     masked (suc (suc b)) u v h f = over h
 
 -- bits of i past the mask's count have no effect
-pub deposit-mod : (i m : ℕ) → m < 2 ^ 64 → pdep (i % 2 ^ ones m) m ≡ pdep i m
-deposit-mod i m h =
-    ap (λ (n : ℕ). pdep n m) (sym (extract-deposit i m h)) ∙ deposit-extract (pdep i m) m (deposit-lt i m) ∙ deposit-in i m
+pub deposit-mod : (i m : ℕ) → pdep (i % 2 ^ count m) m ≡ pdep i m
+deposit-mod i m =
+    ap (λ (n : ℕ). pdep n m) (sym (extract-deposit i m)) ∙ deposit-extract (pdep i m) m (deposit-lt i m) ∙ deposit-in i m

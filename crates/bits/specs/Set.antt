@@ -35,6 +35,11 @@ unfoldable pub countBelow : ℕ → ℕ → ℕ
 countBelow m zero = zero
 countBelow m (suc t) = countBelow m t + bit m t
 
+-- how many squares a set has
+unfoldable pub count : ℕ → ℕ
+unfolding countBelow
+count m = countBelow m 64
+
 -- the least number below n at which the test passes, or n where there is none
 unfoldable pub least : ℕ → (ℕ → Bool) → ℕ
 least zero p = zero
