@@ -5,6 +5,9 @@ pub mod Count
 pub mod Forms
 pub mod Intel
 pub mod Pext
+pub mod Every
+pub mod Algebra
+pub mod Shown
 pub mod Least
 pub mod Turn
 pub mod Halves
