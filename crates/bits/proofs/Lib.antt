@@ -8,6 +8,8 @@ pub mod Pext
 pub mod Every
 pub mod Algebra
 pub mod Shown
+pub mod Gather
+pub mod Listing
 pub mod Least
 pub mod Turn
 pub mod Halves

@@ -1,3 +1,5 @@
+pub mod Blocks
+pub mod OnRay
 pub mod Lists
 pub mod Lines
 pub mod Between

@@ -1,15 +1,16 @@
 -- The four lines of each square, computed over the board: they are its rays, keep to the board, share no square, and but for their ends lie in the mask.
 -- Assumes nothing.
 use Prim.Native.Nat.{ℕ, zero, suc, _<_}
-use mathlib.Core.Path.{_≡_}
+use mathlib.Core.Path.{_≡_, subst}
 use mathlib.Core.Bool.{Bool, true, false, not, _&&_, _||_, Bool·beq}
 use mathlib.Core.List.{List, [], _∷_, _++_}
+use mathlib.Core.Option.{Option, none, some}
 use lib.Dec.{T, ltb, ltb→lt}
 use lib.ListN.{getD}
 use Rattle.bits.specs.Set.{every}
 use Rattle.bits.proofs.Every.{same, is-true, is-false, both-l, both-r, every-at}
 use Rattle.board.specs.Board.{onRay, inMask, between}
-use Rattle.board.specs.Walk.{line}
+use Rattle.board.specs.Walk.{step, line}
 use Rattle.board.proofs.Lists.{isIn, each, eachInner, onBoard}
 
 -- a test at every kind, square and direction
@@ -116,3 +117,17 @@ near-is k s hk hs =
 
     all : T (ltb (near k s) 64 && (onRay k s (near k s) && every 64 (λ u. not (between k s (near k s) u))))
     all = every-at 64 _ (every-at 2 _ near-test k hk) s hs
+
+-- ---- a step stays on the board
+
+abbrev lowStep : Option ℕ → Bool
+lowStep none = true
+lowStep (some t) = ltb t 64
+
+step-test : T (everyLine (λ k s d. lowStep (step k d s)))
+unfolding every step
+step-test = tt
+
+pub step-low : (k s d t : ℕ) → k < 2 → s < 64 → d < 4 → step k d s ≡ some t → t < 64
+step-low k s d t hk hs hd e =
+    ltb→lt t 64 (subst (λ (x : Option ℕ). T (lowStep x)) e (line-at (λ k s d. lowStep (step k d s)) step-test k s d hk hs hd))
