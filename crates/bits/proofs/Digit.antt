@@ -3,12 +3,12 @@
 use mathlib.Core.Path.{_≡_, refl, sym, ap, ap₂, _∙_, subst}
 use mathlib.Core.Logic.{_⊎_, inl, inr}
 use Prim.Native.Nat.{ℕ, zero, suc, _+_, _-_, _*_, _/_, _%_, _^_, _≤_, _<_, zero-le}
-use native.Mathlib.Nat.{le-refl, le-of-suc-le-suc, zero-lt-suc, lt-of-lt-of-le, mod-lt, mod-eq-of-lt, div-eq-of-lt, div-one, add-zero, eq-or-lt-of-le, not-suc-le-zero}
+use native.Mathlib.Nat.{le-refl, le-of-suc-le-suc, zero-lt-suc, lt-of-lt-of-le, mod-lt, mod-eq-of-lt, div-eq-of-lt, div-one, one-mul, eq-or-lt-of-le, not-suc-le-zero}
 use native.Mathlib.Numerals.{one-add}
 use native.Mathlib.Omega.{arith}
 use lib.Dec.{lit<}
 use lib.Arith.{lt-one, digits-lt}
-use lib.Pow.{pow-pos, pow-mono, pow-add, high, low, shr-shr, mod-pow-add, mod-mod-pow, field}
+use lib.Pow.{pow-pos, pow-mono, pow-add, high, low, shr-shr, mod-pow-add, mod-mod-pow, field, shl-exact}
 use Rattle.bits.specs.Set.{bit, fromBits}
 
 pub bit-lt : (n t : ℕ) → bit n t < 2
@@ -85,3 +85,7 @@ module _ (f : ℕ → ℕ) (digit : (t : ℕ) → f t < 2) where
           ap (bit (f k * 2 ^ k + fromBits k f)) e
           ∙ bit-cat-at (f k) (fromBits k f) k (fromBits-lt k) (digit k) ∙ ap f (sym e)
       pick ih (inr l) = bit-cat-low (f k) (fromBits k f) k t (fromBits-lt k) l ∙ ih l
+
+-- `1 << t`
+pub shl-one : (t : ℕ) → t < 64 → 1 * 2 ^ t % 2 ^ 64 ≡ 2 ^ t
+shl-one t h = shl-exact 1 t 64 (lit< tt) (omega arith) ∙ one-mul (2 ^ t)

@@ -8,7 +8,6 @@ pub mod Pext
 pub mod Every
 pub mod Algebra
 pub mod Shown
-pub mod Gather
 pub mod Listing
 pub mod Parts
 pub mod Least

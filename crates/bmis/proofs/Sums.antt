@@ -14,7 +14,7 @@ use Rattle.bits.proofs.Shown.{sum-more, sum-mono}
 use Rattle.board.specs.Blocks.{blockOf, kindOf, squareOf, sizeOf}
 use Rattle.board.proofs.Blocks.{block-rook, block-bishop, kind-block, square-block}
 use Rattle.bmis.specs.Bmis.{blockAt, sizeAt, offsetOf}
-use Rattle.bmis.specs.Starts.{starts}
+use Rattle.tables.specs.Starts.{starts}
 
 -- ---- the block at a place
 

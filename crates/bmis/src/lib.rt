@@ -8,15 +8,13 @@
 use refusal::Answer;
 use refusal::Refusal;
 ghost use mathlib.Core.Path.{_≡_};
-ghost use Prim.Native.Nat.{_≤_, _<_};
 ghost use lib.ListN.{getD, length};
 ghost use Rattle.refusal.specs.Paper.{said, gives};
 ghost use Rattle.bits.specs.Intel.{pext, pdep};
-ghost use Rattle.bits.specs.Shown.{shown, sum};
+ghost use Rattle.bits.specs.Shown.{shown};
 ghost use Rattle.board.specs.Board.{rays, mask};
 ghost use Rattle.board.specs.Blocks.{blockOf, kindOf, squareOf, sizeOf};
-ghost use Rattle.bmis.specs.Bmis.{blockAt, sizeAt, offsetOf, entry, entriesTo, ofLength, inTable, filled, lookUp, given, partOf, extentOf, placed};
-ghost use Rattle.bmis.specs.Starts.{starts};
+ghost use Rattle.bmis.specs.Bmis.{blockAt, offsetOf, entry, entriesTo, ofLength, inTable, filled, lookUp, given, partOf, extentOf, placed};
 
 // Where a square's block lies in the table.
 pub enum Place {
@@ -33,171 +31,12 @@ fn block_at(p: usize) -> usize
     (1 - p % 2) * 64 + p / 2
 }
 
-// The sizes of the first blocks of that order, added up.
-fn sum_sizes(blocks: usize) -> usize
-    requires { ⌜ blocks ≤ 128 ⌝ }
-    ensures { λ r. ⌜ r ≡ sum blocks sizeAt ⌝ }
-{
-    let mut sum: usize = 0;
-    let mut p: usize = 0;
-    while p < blocks {
-        sum += magic_helpers::size_at(block_at(p));
-        p += 1;
-    }
-    sum
-}
-
-// A place that no arm of the match below names.
-fn unlisted(p: usize) -> usize
-    requires { ⌜ p < 128 ⌝ }
-    ensures { λ r. ⌜ r ≡ getD starts p 0 ⌝ }
-{
-    sum_sizes(p)
-}
-
-fn listed(p: usize) -> usize
-    requires { ⌜ p < 128 ⌝ }
-    ensures { λ r. ⌜ r ≡ getD starts p 0 ⌝ }
-{
-    match p {
-        0 => 0,
-        1 => 4096,
-        2 => 4160,
-        3 => 6208,
-        4 => 6240,
-        5 => 8288,
-        6 => 8320,
-        7 => 10368,
-        8 => 10400,
-        9 => 12448,
-        10 => 12480,
-        11 => 14528,
-        12 => 14560,
-        13 => 16608,
-        14 => 16640,
-        15 => 20736,
-        16 => 20800,
-        17 => 22848,
-        18 => 22880,
-        19 => 23904,
-        20 => 23936,
-        21 => 24960,
-        22 => 24992,
-        23 => 26016,
-        24 => 26048,
-        25 => 27072,
-        26 => 27104,
-        27 => 28128,
-        28 => 28160,
-        29 => 29184,
-        30 => 29216,
-        31 => 31264,
-        32 => 31296,
-        33 => 33344,
-        34 => 33376,
-        35 => 34400,
-        36 => 34432,
-        37 => 35456,
-        38 => 35584,
-        39 => 36608,
-        40 => 36736,
-        41 => 37760,
-        42 => 37888,
-        43 => 38912,
-        44 => 39040,
-        45 => 40064,
-        46 => 40096,
-        47 => 42144,
-        48 => 42176,
-        49 => 44224,
-        50 => 44256,
-        51 => 45280,
-        52 => 45312,
-        53 => 46336,
-        54 => 46464,
-        55 => 47488,
-        56 => 48000,
-        57 => 49024,
-        58 => 49536,
-        59 => 50560,
-        60 => 50688,
-        61 => 51712,
-        62 => 51744,
-        63 => 53792,
-        64 => 53824,
-        65 => 55872,
-        66 => 55904,
-        67 => 56928,
-        68 => 56960,
-        69 => 57984,
-        70 => 58112,
-        71 => 59136,
-        72 => 59648,
-        73 => 60672,
-        74 => 61184,
-        75 => 62208,
-        76 => 62336,
-        77 => 63360,
-        78 => 63392,
-        79 => 65440,
-        80 => 65472,
-        81 => 67520,
-        82 => 67552,
-        83 => 68576,
-        84 => 68608,
-        85 => 69632,
-        86 => 69760,
-        87 => 70784,
-        88 => 70912,
-        89 => 71936,
-        90 => 72064,
-        91 => 73088,
-        92 => 73216,
-        93 => 74240,
-        94 => 74272,
-        95 => 76320,
-        96 => 76352,
-        97 => 78400,
-        98 => 78432,
-        99 => 79456,
-        100 => 79488,
-        101 => 80512,
-        102 => 80544,
-        103 => 81568,
-        104 => 81600,
-        105 => 82624,
-        106 => 82656,
-        107 => 83680,
-        108 => 83712,
-        109 => 84736,
-        110 => 84768,
-        111 => 86816,
-        112 => 86848,
-        113 => 90944,
-        114 => 91008,
-        115 => 93056,
-        116 => 93088,
-        117 => 95136,
-        118 => 95168,
-        119 => 97216,
-        120 => 97248,
-        121 => 99296,
-        122 => 99328,
-        123 => 101376,
-        124 => 101408,
-        125 => 103456,
-        126 => 103488,
-        127 => 107584,
-        _ => unlisted(p),
-    }
-}
-
 // Where a block begins.
 pub fn offset_at(block: usize) -> usize
     ensures { λ r. ⌜ r ≡ offsetOf (kindOf block) (squareOf block) ⌝ }
 {
     let kind = 1 - block / 64 % 2;
-    listed(2 * (block % 64) + kind)
+    tables::start_listed(2 * (block % 64) + kind)
 }
 
 // ---- the fill

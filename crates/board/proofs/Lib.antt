@@ -1,5 +1,4 @@
 pub mod Blocks
-pub mod OnRay
 pub mod Lists
 pub mod Lines
 pub mod Between

@@ -10,7 +10,7 @@ use borrow.Author.Tests.{le-ltb}
 use lib.Bits.{bitAnd, bitOr, or-zero-r}
 use Rattle.refusal.specs.Paper.{Said, gives, refuseIf}
 use Rattle.bits.specs.Set.{pick, has}
-use Rattle.bits.proofs.Gather.{shl-one}
+use Rattle.bits.proofs.Digit.{shl-one}
 use Rattle.bits.proofs.Algebra.{bitOr-assoc, test-has, test-not}
 use Rattle.square.specs.Square.{onSquare}
 use Rattle.board.specs.Walk.{step, onward, upTo}

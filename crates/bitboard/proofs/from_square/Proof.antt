@@ -1,12 +1,10 @@
 -- `bitboard::from_square` meets its contract, by the test that led to each answer.
 use Prim.Native.Nat.{ℕ, _^_, _≤_}
-use mathlib.Core.Path.{ap, _∙_}
-use native.Mathlib.Nat.{one-mul}
+use mathlib.Core.Path.{ap}
 use native.Mathlib.Omega.{arith}
 use borrow.Author.Needs.{needs}
 use borrow.Author.Tests.{lt-ltb, le-ltb}
-use lib.Dec.{lit<}
-use lib.Pow.{shl-exact}
+use Rattle.bits.proofs.Digit.{shl-one as shl-one-is}
 use Rattle.refusal.specs.Paper.{gives}
 use Rattle.bitboard.proofs.from_square.Statement.{statement}
 use Rattle.bitboard.proofs.from_square.Tie as tie
@@ -18,7 +16,7 @@ returns : tie.Need-returns
 returns c =
     let s = c .before .args .sq in
     let h : s ≤ 63 = omega arith in
-    simp (le-ltb _ _ h) (ap gives (shl-exact 1 s 64 (lit< tt) (omega arith) ∙ one-mul (2 ^ s)))
+    simp (le-ltb _ _ h) (ap gives (shl-one-is s (omega arith)))
 
 returns-2 : tie.Need-returns-2
 returns-2 c = simp (lt-ltb _ _ (c .if1 .left))

@@ -12,20 +12,20 @@ use Rattle.bmis.proofs.offset_at.Tie as tie
 sub-kind : tie.Need-sub-kind
 sub-kind c = search needs
 
-mul-listed : tie.Need-mul-listed
-mul-listed c = search needs
+mul-start-listed : tie.Need-mul-start-listed
+mul-start-listed c = search needs
 
-add-listed : tie.Need-add-listed
-add-listed c = search needs
+add-start-listed : tie.Need-add-start-listed
+add-start-listed c = search needs
 
-listed-requires : tie.Need-listed-requires
-listed-requires c κs = omega arith
+start-listed-requires : tie.Need-start-listed-requires
+start-listed-requires c κs = search needs
 
 returns : tie.Need-returns
 unfolding offsetOf kindOf squareOf
 returns c =
     let b = c .before .args .block in
-    c .listed .ensures ∙ start-is (2 * (b % 64) + (1 - b / 64 % 2)) (omega arith)
+    c .start-listed .ensures ∙ start-is (2 * (b % 64) + (1 - b / 64 % 2)) (omega arith)
 
 pub offset-at-spec : {M : Type 1} → statement M
-offset-at-spec = tie.close (tie.spec sub-kind mul-listed add-listed listed-requires returns)
+offset-at-spec = tie.close (tie.spec sub-kind mul-start-listed add-start-listed start-listed-requires returns)

@@ -6,7 +6,7 @@ use borrow.Author.Needs.{needs}
 use Rattle.board.specs.Blocks.{kindOf, squareOf, sizeOf}
 use Rattle.board.proofs.Blocks.{kind-lt, square-lt}
 use Rattle.board.proofs.Sizes.{bits-high}
-use Rattle.bits.proofs.Gather.{shl-one}
+use Rattle.bits.proofs.Digit.{shl-one}
 use Rattle.magic_helpers.proofs.size_at.Statement.{statement}
 use Rattle.magic_helpers.proofs.size_at.Tie as tie
 

@@ -1,4 +1,4 @@
--- Where the 128 blocks begin, in their order, as the code lists them. Nobody has to believe it: proofs/Sums.antt holds it against the definition.
+-- Where the 128 blocks of a PEXT table begin, in their order, as the code lists them. Nobody has to believe it: the crate `bmis` holds it against the definition.
 use Prim.Native.Nat.{ℕ}
 use mathlib.Core.List.{List, [], _∷_}
 
