@@ -2,7 +2,7 @@
 -- Assumes nothing.
 use Prim.Native.Nat.{ℕ, _*_, _%_, _^_, _<_}
 use mathlib.Core.Path.{_≡_, refl, sym, ap, ap₂, _∙_}
-use mathlib.Core.Bool.{Bool, true, false, not, _&&_, and-true}
+use mathlib.Core.Bool.{Bool, true, false, not, xor, _&&_}
 use native.Mathlib.Nat.{one-mul}
 use native.Mathlib.Omega.{arith}
 use borrow.Author.Tests.{eqb-true, eq-eqb, eqb-false, ne-eqb}
@@ -10,11 +10,11 @@ use lib.Bits.{bitXor, xor-lt}
 use lib.Dec.{eqb, lit<}
 use lib.Pow.{shl-exact, pow-lt}
 use Rattle.bits.specs.Set.{has}
-use Rattle.bits.proofs.Sets.{xor, has-xor, has-pow, is-setOf}
+use Rattle.bits.proofs.Sets.{has-xor, has-pow, is-setOf}
 use Rattle.bitboard.specs.Bitboard.{without}
 
 pub xor-square : (a s : ℕ) → a < 2 ^ 64 → s < 64 → has a s ≡ true → bitXor a (1 * 2 ^ s % 2 ^ 64) ≡ without a s
-unfolding without
+unfolding without xor
 xor-square a s h l e =
     ap (bitXor a) (shl-exact 1 s 64 (lit< tt) (omega arith) ∙ one-mul (2 ^ s))
     ∙ is-setOf (bitXor a (2 ^ s)) _ (xor-lt 64 a (2 ^ s) h (pow-lt l))

@@ -5,6 +5,11 @@ pub mod Count
 pub mod Forms
 pub mod Intel
 pub mod Pext
+pub mod Every
+pub mod Algebra
+pub mod Shown
+pub mod Gather
+pub mod Listing
 pub mod Least
 pub mod Turn
 pub mod Halves

@@ -1,7 +1,7 @@
 -- Laws of sets: which squares AND, OR, XOR, one square and `setOf` have, and equality square by square.
 -- Assumes nothing.
 use mathlib.Core.Path.{_≡_, refl, sym, ap, ap₂, _∙_}
-use mathlib.Core.Bool.{Bool, true, false, not, _&&_, _||_}
+use mathlib.Core.Bool.{Bool, true, false, xor, _&&_, _||_}
 use mathlib.Core.Logic.{_⊎_, inl, inr}
 use Prim.Native.Nat.{ℕ, zero, suc, _+_, _*_, _/_, _%_, _^_, _≤_, _<_, min, max}
 use native.Mathlib.Nat.{le-refl, lt-of-le-of-lt, add-zero, one-mul, min-le-left}
@@ -29,6 +29,9 @@ digit-has n t = go (bit n t) (bit-lt n t)
     go zero h = refl
     go (suc zero) h = refl
     go (suc (suc x)) h = over h
+
+pub bit-has : (n t : ℕ) → has n t ≡ true → bit n t ≡ 1
+bit-has n t e = sym (digit-has n t) ∙ ap digit e
 
 pub has-ext : (k a b : ℕ) → a < 2 ^ k → b < 2 ^ k → ((t : ℕ) → t < k → has a t ≡ has b t) → a ≡ b
 has-ext k a b ha hb h = ext k a b ha hb (λ t l. sym (digit-has a t) ∙ ap digit (h t l) ∙ digit-has b t)
@@ -91,13 +94,8 @@ has-or a b t =
     ap (λ (x : ℕ). eqb x 1) (bit-or a b t)
     ∙ two (λ x y. eqb (max x y) 1) (λ x y. eqb x 1 || eqb y 1) refl refl refl refl a b t
 
--- true where the two tests differ
-abbrev pub xor : Bool → Bool → Bool
-xor true b = not b
-xor false b = b
-
 pub has-xor : (a b t : ℕ) → has (bitXor a b) t ≡ xor (has a t) (has b t)
-unfolding has
+unfolding has xor
 has-xor a b t =
     ap (λ (x : ℕ). eqb x 1) (bit-xor a b t)
     ∙ two (λ x y. eqb (differ x y) 1) (λ x y. xor (eqb x 1) (eqb y 1)) refl refl refl refl a b t

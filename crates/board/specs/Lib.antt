@@ -1,2 +1,4 @@
 pub mod Board
 pub mod Blocks
+pub mod Walk
+pub mod Crate

@@ -1,0 +1,12 @@
+pub mod Blocks
+pub mod OnRay
+pub mod Lists
+pub mod Lines
+pub mod Between
+pub mod Attack
+pub mod Subsets
+pub mod CrateBoard
+pub mod CrateWalk
+pub mod CrateQuestions
+pub mod Sizes
+pub mod Asserts
