@@ -1,5 +1,5 @@
 -- `hex::read` meets its contract: before turn i, the number is what i digits spell, and so below 16 ^ i.
-use Prim.Native.Nat.{suc, _-_, _^_, _≤_, _<_}
+use Prim.Native.Nat.{_-_, _^_, _≤_, _<_}
 use mathlib.Core.Path.{_≡_, sym, ap, _∙_}
 use native.Mathlib.Numerals.{add-one}
 use native.Mathlib.Omega.{arith}
