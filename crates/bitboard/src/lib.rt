@@ -2,7 +2,7 @@
 //
 // Holds: the set operations, the product, the shift to a size, the count of ones, the set of one square, the least
 // square and the iterator's step. A set is a plain u64; bit s is square s.
-// Ports: src/bitboard.rs (lines 39 to 235 and 262 to 336): the methods of the operator traits under their names,
+// Ports: src/bitboard.rs (lines 40 to 252 and 272 to 336): the methods of the operator traits under their names,
 // `set`, `from_square`, `to_square`, `popcnt`, `to_size`, `next`.
 // Adds: refusal 2 for a square above 63, a rank or file above 7 and the least square of the empty set; 0 for a shift by
 // 64 or more.

@@ -5,10 +5,12 @@ use mathlib.Core.Path.{_≡_, refl, sym, ap, ap₂, _∙_}
 use mathlib.Core.Bool.{Bool, true, false, _&&_, _||_, or-assoc, and-false, and-or-distrib-right}
 use native.Mathlib.Nat.{pow-suc}
 use native.Mathlib.Omega.{arith}
-use lib.Bits.{bitAnd, bitOr}
+use borrow.Author.Tests.{eqb-true}
+use lib.Dec.{eqb}
+use lib.Bits.{bitAnd, bitOr, and-comm}
 use lib.Pow.{pow-pos, pow-mono}
-use Rattle.bits.specs.Set.{has}
-use Rattle.bits.proofs.Sets.{has-ext, has-and, has-or}
+use Rattle.bits.specs.Set.{pick, has}
+use Rattle.bits.proofs.Sets.{has-ext, has-and, has-or, has-pow, has-zero}
 
 lt-pow : (n : ℕ) → n < 2 ^ n
 lt-pow zero = pow-pos 0
@@ -39,3 +41,32 @@ or-absorbs m a p = ap (bitOr m) (sym p) ∙ has-ext-all _ _ (λ t. simp (has-or,
     absorb : (x y : Bool) → (x || (y && x)) ≡ x
     absorb true y = refl
     absorb false y = and-false y
+
+-- ---- one square
+
+-- AND with a square asks for it
+pub and-square : (a t : ℕ) → bitAnd (2 ^ t) a ≡ pick (has a t) (2 ^ t) 0
+and-square a t = has-ext-all _ _ (λ u. has-and (2 ^ t) a u ∙ ap (λ (x : Bool). x && has a u) (has-pow t u) ∙ go u (eqb t u) refl (has a t) refl)
+  where
+    go : (u : ℕ) (m : Bool) → eqb t u ≡ m → (h : Bool) → has a t ≡ h → (m && has a u) ≡ has (pick h (2 ^ t) 0) u
+    go u true e true q = sym (ap (has a) (eqb-true t u e)) ∙ q ∙ sym (has-pow t u ∙ e)
+    go u true e false q = sym (ap (has a) (eqb-true t u e)) ∙ q ∙ sym (has-zero u)
+    go u false e true q = sym (has-pow t u ∙ e)
+    go u false e false q = sym (has-zero u)
+
+pub test-has : (b t : ℕ) → (bitAnd b (2 ^ t) ≡ 0 → ⊥) → has b t ≡ true
+test-has b t f = go (has b t) refl
+  where
+    go : (h : Bool) → has b t ≡ h → h ≡ true
+    go true e = refl
+    go false e = absurd (f (and-comm b (2 ^ t) ∙ and-square b t ∙ ap (λ (x : Bool). pick x (2 ^ t) 0) e))
+
+pub test-not : (b t : ℕ) → bitAnd b (2 ^ t) ≡ 0 → has b t ≡ false
+test-not b t e = go (has b t) refl
+  where
+    go : (h : Bool) → has b t ≡ h → h ≡ false
+    go true q = absurd (some (sym (ap (λ (x : Bool). pick x (2 ^ t) 0) q) ∙ sym (and-square b t) ∙ and-comm (2 ^ t) b ∙ e))
+      where
+        some : 2 ^ t ≡ 0 → ⊥
+        some z = omega (arith, pow-pos t)
+    go false q = refl

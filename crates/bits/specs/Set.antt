@@ -11,6 +11,10 @@ bit n t = n / 2 ^ t % 2
 unfoldable pub has : ℕ → ℕ → Bool
 has n t = eqb (bit n t) 1
 
+abbrev pub pick : Bool → ℕ → ℕ → ℕ
+pick true a b = a
+pick false a b = b
+
 abbrev pub digit : Bool → ℕ
 digit true = 1
 digit false = 0

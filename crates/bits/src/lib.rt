@@ -3,7 +3,7 @@
 // Holds: the product modulo 2^64, a right shift by any number, software PEXT (`extract`) and PDEP (`deposit`); in
 // specs/ what a set and its squares are, and Intel's account of the two instructions; in proofs/ the laws of bits and
 // sets that every crate above cites.
-// Ports: `wrapping_mul` as src/bitboard.rs uses it (lines 185 to 223), `_pext_u64` of src/gen_tables/bmis.rs (line 1).
+// Ports: `wrapping_mul` as src/bitboard.rs uses it (lines 198 to 233), `_pext_u64` of src/gen_tables/bmis.rs (line 1).
 // Adds: the shift past 63, PDEP's loop, all laws.
 ghost use mathlib.Core.Path.{_≡_};
 ghost use Prim.Native.Nat.{_*_, _/_, _%_, _^_};

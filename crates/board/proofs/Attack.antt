@@ -23,10 +23,6 @@ pub rays-lt : (k s : ℕ) → rays k s < 2 ^ 64
 unfolding rays
 rays-lt k s = setOf-lt (onRay k s)
 
-pub attack-lt : (k s b : ℕ) → attack k s b < 2 ^ 64
-unfolding attack
-attack-lt k s b = setOf-lt (λ t. onRay k s t && clear k s b t)
-
 pub has-mask : (k s t : ℕ) → t < 64 → has (mask k s) t ≡ inMask k s t
 unfolding mask
 has-mask k s t h = has-setOf (inMask k s) t h
@@ -38,6 +34,10 @@ has-rays k s t h = has-setOf (onRay k s) t h
 has-attack : (k s b t : ℕ) → t < 64 → has (attack k s b) t ≡ (onRay k s t && clear k s b t)
 unfolding attack
 has-attack k s b t h = has-setOf (λ t. onRay k s t && clear k s b t) t h
+
+pub attack-lt : (k s b : ℕ) → attack k s b < 2 ^ 64
+unfolding attack
+attack-lt k s b = setOf-lt (λ t. onRay k s t && clear k s b t)
 
 module _ (k s : ℕ) (hk : k < 2) (hs : s < 64) where
   line-lt : (b d : ℕ) → d < 4 → upTo b (line k d s) < 2 ^ 64

@@ -13,24 +13,24 @@ use lib.Count.{ones}
 use lib.Dec.{ltb, ltb→lt, eqb}
 use lib.ListN.{getD}
 use lib.Pow.{pow-pos, pow-lt}
-use Rattle.bits.specs.Set.{has, countBelow, count}
+use Rattle.bits.specs.Set.{pick, has, countBelow, count}
 use Rattle.bits.specs.Shown.{shown}
 use Rattle.bits.proofs.Sets.{bit-has, has-or, has-pow, has-zero, has-ext}
+use Rattle.bits.proofs.Algebra.{and-square}
 use Rattle.bits.proofs.Count.{count-ones, count-lt}
 use Rattle.bits.proofs.Every.{is-true}
 use Rattle.bits.proofs.Shown.{shown-cong, map-shown}
 use Rattle.board.specs.Board.{inMask, mask, attack}
 use Rattle.board.specs.Blocks.{bitsOf, sizeOf, subset}
-use Rattle.board.specs.Walk.{pick}
 use Rattle.board.specs.Crate.{cond, collect, question, rays-to-questions, magic-mask, questions, answer, answers}
 use Rattle.board.proofs.Attack.{has-mask, mask-lt}
 use Rattle.board.proofs.Subsets.{has-subset, subset-lt}
 use Rattle.board.proofs.CrateBoard.{Nth, nth-is, crate-mask}
-use Rattle.board.proofs.CrateWalk.{and-pow, crate-answer}
+use Rattle.board.proofs.CrateWalk.{crate-answer}
 
 -- `i & (1 << j) == (1 << j)`
 bit-test : (i j : ℕ) → eqb (bitAnd i (2 ^ j)) (2 ^ j) ≡ has i j
-bit-test i j = ap (λ (x : ℕ). eqb x (2 ^ j)) (and-comm i (2 ^ j) ∙ and-pow i j) ∙ go (has i j)
+bit-test i j = ap (λ (x : ℕ). eqb x (2 ^ j)) (and-comm i (2 ^ j) ∙ and-square i j) ∙ go (has i j)
   where
     go : (h : Bool) → eqb (pick h (2 ^ j) 0) (2 ^ j) ≡ h
     go true = eq-eqb (2 ^ j) (2 ^ j) refl

@@ -6,16 +6,16 @@ use mathlib.Core.Bool.{Bool, true, false, not, _&&_, _||_, or-assoc, true≢fals
 use mathlib.Core.List.{List, [], _∷_, _++_}
 use mathlib.Core.Option.{Option, none, some}
 use native.Mathlib.Omega.{arith}
-use borrow.Author.Tests.{eqb-true, ne-eqb}
+use borrow.Author.Tests.{ne-eqb}
 use lib.Bits.{bitAnd, bitOr, bitXor, or-disjoint, xor-disjoint, or-zero-r, and-comm}
 use lib.Dec.{T, eqb, lit<}
 use lib.Pow.{pow-pos}
-use Rattle.bits.specs.Set.{has}
-use Rattle.bits.proofs.Sets.{has-or, has-and, has-pow, has-zero}
-use Rattle.bits.proofs.Algebra.{has-ext-all, bitOr-assoc}
+use Rattle.bits.specs.Set.{pick, has}
+use Rattle.bits.proofs.Sets.{has-or, has-pow, has-zero}
+use Rattle.bits.proofs.Algebra.{bitOr-assoc, and-square}
 use Rattle.bits.proofs.Every.{is-false, both-l, both-r}
 use Rattle.board.specs.Board.{attack}
-use Rattle.board.specs.Walk.{pick, line, upTo, walk}
+use Rattle.board.specs.Walk.{line, upTo, walk}
 use Rattle.board.specs.Crate.{cond, answer-along, answer-all, answer, rook-directions, bishop-directions}
 use Rattle.board.proofs.Lists.{isIn, before, free, has-upTo}
 use Rattle.board.proofs.Lines.{apart, passed, lines-apart}
@@ -24,23 +24,14 @@ use Rattle.board.proofs.CrateBoard.{path, direction, path-is-line}
 
 -- ---- one square
 
-pub and-pow : (a t : ℕ) → bitAnd (2 ^ t) a ≡ pick (has a t) (2 ^ t) 0
-and-pow a t = has-ext-all _ _ (λ u. has-and (2 ^ t) a u ∙ ap (λ (x : Bool). x && has a u) (has-pow t u) ∙ go u (eqb t u) refl (has a t) refl)
-  where
-    go : (u : ℕ) (m : Bool) → eqb t u ≡ m → (h : Bool) → has a t ≡ h → (m && has a u) ≡ has (pick h (2 ^ t) 0) u
-    go u true e true q = sym (ap (has a) (eqb-true t u e)) ∙ q ∙ sym (has-pow t u ∙ e)
-    go u true e false q = sym (ap (has a) (eqb-true t u e)) ∙ q ∙ sym (has-zero u)
-    go u false e true q = sym (has-pow t u ∙ e)
-    go u false e false q = sym (has-zero u)
-
 xor-new : (a t : ℕ) → has a t ≡ false → bitXor a (2 ^ t) ≡ bitOr a (2 ^ t)
 xor-new a t h =
-    let z : bitAnd a (2 ^ t) ≡ 0 = and-comm a (2 ^ t) ∙ and-pow a t ∙ ap (λ (x : Bool). pick x (2 ^ t) 0) h in
+    let z : bitAnd a (2 ^ t) ≡ 0 = and-comm a (2 ^ t) ∙ and-square a t ∙ ap (λ (x : Bool). pick x (2 ^ t) 0) h in
     xor-disjoint a (2 ^ t) z ∙ sym (or-disjoint a (2 ^ t) z)
 
 -- the crate's test for a break, turned round
 test : (b t : ℕ) → eqb (bitAnd (2 ^ t) b) 0 ≡ not (has b t)
-test b t = ap (λ (x : ℕ). eqb x 0) (and-pow b t) ∙ go (has b t)
+test b t = ap (λ (x : ℕ). eqb x 0) (and-square b t) ∙ go (has b t)
   where
     go : (h : Bool) → eqb (pick h (2 ^ t) 0) 0 ≡ not h
     go true = ne-eqb (2 ^ t) 0 (λ e. omega (arith, pow-pos t))

@@ -8,10 +8,10 @@ use borrow.Author.Tests.{eqb-true}
 use lib.Bits.{bitOr, or-lt, or-zero-r}
 use lib.Dec.{T, ltb, eqb, ltb→lt}
 use lib.Pow.{pow-pos, pow-lt}
-use Rattle.bits.specs.Set.{has, every}
+use Rattle.bits.specs.Set.{pick, has, every}
 use Rattle.bits.proofs.Sets.{has-or, has-pow, has-zero}
 use Rattle.bits.proofs.Every.{is-true, both-l, both-r, every-cong, every-true, every-and, every-one}
-use Rattle.board.specs.Walk.{pick, upTo}
+use Rattle.board.specs.Walk.{upTo}
 
 -- t stands in the list
 unfoldable pub isIn : ℕ → List ℕ → Bool

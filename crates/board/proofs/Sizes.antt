@@ -6,13 +6,12 @@ use mathlib.Core.Bool.{Bool, _&&_, _||_}
 use native.Mathlib.Omega.{arith}
 use lib.Dec.{T, leb, leb→le, eqb, eqb→eq}
 use lib.Pow.{pow-mono}
-use Rattle.bits.specs.Set.{every}
+use Rattle.bits.specs.Set.{pick, every}
 use Rattle.bits.specs.Shown.{sum}
 use Rattle.bits.proofs.Every.{both-l, both-r, every-at}
 use Rattle.square.specs.Square.{rankOf, fileOf}
 use Rattle.board.specs.Board.{outer}
 use Rattle.board.specs.Blocks.{bitsOf, sizeOf, shiftOf}
-use Rattle.board.specs.Walk.{pick}
 
 -- "Mask bits: rook 12 in a corner, 11 elsewhere on an edge, 10 inside"
 abbrev pub rookBits : ℕ → ℕ

@@ -1,15 +1,10 @@
 -- The walk. 01, "The board": "Walk: from s in each of four directions, add squares up to and including the first blocker."
 use Prim.Native.Nat.{ℕ, zero, suc, _^_}
-use mathlib.Core.Bool.{Bool, true, false}
 use mathlib.Core.List.{List, [], _∷_}
 use mathlib.Core.Option.{Option, none, some}
 use lib.Bits.{bitOr}
-use Rattle.bits.specs.Set.{has}
+use Rattle.bits.specs.Set.{pick, has}
 use Rattle.square.specs.Square.{upOf, downOf, leftOf, rightOf}
-
-abbrev pub pick : Bool → ℕ → ℕ → ℕ
-pick true a b = a
-pick false a b = b
 
 -- a step, and a second one from where it leads
 abbrev pub thenStep : Option ℕ → (ℕ → Option ℕ) → Option ℕ

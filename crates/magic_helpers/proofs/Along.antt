@@ -1,30 +1,19 @@
 -- The loop along one direction: what is gathered, and the walk from where it stands, make the whole.
 -- Assumes nothing.
-use Prim.Native.Nat.{ℕ, zero, suc, _+_, _-_, _*_, _/_, _%_, _^_, _≤_, _<_}
-use mathlib.Core.Path.{_≡_, refl, sym, ap, ap₂, _∙_}
-use mathlib.Core.Bool.{Bool, true, false}
+use Prim.Native.Nat.{ℕ, zero, suc, _+_, _-_, _*_, _%_, _^_, _≤_, _<_}
+use mathlib.Core.Path.{_≡_, refl, sym, ap, _∙_}
+use mathlib.Core.Bool.{Bool}
 use mathlib.Core.List.{List, [], _∷_}
 use mathlib.Core.Option.{Option, none, some}
 use native.Mathlib.Omega.{arith}
-use borrow.Author.Tests.{eq-eqb, ne-eqb, le-ltb}
-use lib.Bits.{bitAnd, bitOr, or-zero-r, and-mask}
-use lib.Dec.{ltb}
-use Rattle.refusal.specs.Paper.{Said, gives, refuses, refuseIf}
-use Rattle.refusal.proofs.Said.{gives-same, gives-not}
-use Rattle.bits.specs.Set.{has}
+use borrow.Author.Tests.{le-ltb}
+use lib.Bits.{bitAnd, bitOr, or-zero-r}
+use Rattle.refusal.specs.Paper.{Said, gives, refuseIf}
+use Rattle.bits.specs.Set.{pick, has}
 use Rattle.bits.proofs.Gather.{shl-one}
-use Rattle.bits.proofs.Algebra.{bitOr-assoc}
+use Rattle.bits.proofs.Algebra.{bitOr-assoc, test-has, test-not}
 use Rattle.square.specs.Square.{onSquare}
-use Rattle.board.specs.Walk.{pick, step, onward, upTo}
-
--- `(b >> t) & 1 == 1`
-test-has : (b t : ℕ) → bitAnd (b / 2 ^ t) 1 ≡ 1 → has b t ≡ true
-unfolding has
-test-has b t e = eq-eqb (b / 2 ^ t % 2) 1 (sym (and-mask (b / 2 ^ t) 1) ∙ e)
-
-test-not : (b t : ℕ) → (bitAnd (b / 2 ^ t) 1 ≡ 1 → ⊥) → has b t ≡ false
-unfolding has
-test-not b t ne = ne-eqb (b / 2 ^ t % 2) 1 (λ e. ne (and-mask (b / 2 ^ t) 1 ∙ e))
+use Rattle.board.specs.Walk.{step, onward, upTo}
 
 -- a step from a square of the board is given
 pub given-step : (k d s : ℕ) (x : Said (Option ℕ)) → s < 64 → x ≡ onSquare s (gives (step k d s)) → x ≡ gives (step k d s)
@@ -65,14 +54,17 @@ module _ (b n k d s set w : ℕ) (inv : bitOr set (toGo b n k d s) ≡ w) where
         bitOr-assoc set (2 ^ t) (pick (has b t) 0 (toGo b (n + 1) k d t))
         ∙ ap (λ (l : List ℕ). bitOr set (upTo b l)) (sym (ap (onward (7 - n) k d) e ∙ onward-some n k d t h)) ∙ inv
 
-    -- a step onto a blocker
-    pub along-stop : bitAnd (b / 2 ^ t) 1 ≡ 1 → bitOr set (1 * 2 ^ t % 2 ^ 64) ≡ w
-    along-stop q =
-        ap (bitOr set) (shl-one t low) ∙ sym (or-zero-r (bitOr set (2 ^ t)))
-        ∙ ap (λ (c : Bool). bitOr (bitOr set (2 ^ t)) (pick c 0 (toGo b (n + 1) k d t))) (sym (test-has b t q)) ∙ next
+    -- a step onto a blocker, or onto a free square: `one` is `1 << t`
+    module _ (one : ℕ) (is-one : one ≡ 1 * 2 ^ t % 2 ^ 64) where
+      square-of : one ≡ 2 ^ t
+      square-of = is-one ∙ shl-one t low
 
-    -- a step onto a free square
-    pub along-on : (bitAnd (b / 2 ^ t) 1 ≡ 1 → ⊥) → bitOr (bitOr set (1 * 2 ^ t % 2 ^ 64)) (toGo b (n + 1) k d t) ≡ w
-    along-on q =
-        ap (λ (x : ℕ). bitOr (bitOr set x) (toGo b (n + 1) k d t)) (shl-one t low)
-        ∙ ap (λ (c : Bool). bitOr (bitOr set (2 ^ t)) (pick c 0 (toGo b (n + 1) k d t))) (sym (test-not b t q)) ∙ next
+      pub along-stop : (bitAnd b one ≡ 0 → ⊥) → bitOr set one ≡ w
+      along-stop q =
+          ap (bitOr set) square-of ∙ sym (or-zero-r (bitOr set (2 ^ t)))
+          ∙ ap (λ (c : Bool). bitOr (bitOr set (2 ^ t)) (pick c 0 (toGo b (n + 1) k d t))) (sym (test-has b t (λ z. q (ap (bitAnd b) square-of ∙ z)))) ∙ next
+
+      pub along-on : bitAnd b one ≡ 0 → bitOr (bitOr set one) (toGo b (n + 1) k d t) ≡ w
+      along-on q =
+          ap (λ (x : ℕ). bitOr (bitOr set x) (toGo b (n + 1) k d t)) square-of
+          ∙ ap (λ (c : Bool). bitOr (bitOr set (2 ^ t)) (pick c 0 (toGo b (n + 1) k d t))) (sym (test-not b t (ap (bitAnd b) (sym square-of) ∙ q))) ∙ next

@@ -16,15 +16,15 @@ use Rattle.magic_helpers.specs.Chain.{chain}
 Low : Option ℕ → Type 0
 Low x = (t : ℕ) → x ≡ some t → t ≤ 63
 
-chain-then : (s : ℕ) (x : Option ℕ) (f : ℕ → Option ℕ) → (s ≤ 63 → Low x) → chain (onSquare s (gives x)) (λ t. onSquare t (gives (f t))) ≡ onSquare s (gives (thenStep x f))
+chain-then : (s : ℕ) (x : Option ℕ) (f : ℕ → Option ℕ) → (s ≤ 63 → Low x) → chain (onSquare s (gives x)) f ≡ onSquare s (gives (thenStep x f))
 unfolding Low
 chain-then s x f low = go (ltb 63 s) refl
   where
-    second : (x : Option ℕ) → ((t : ℕ) → x ≡ some t → t ≤ 63) → chain (gives x) (λ t. onSquare t (gives (f t))) ≡ gives (thenStep x f)
+    second : (x : Option ℕ) → ((t : ℕ) → x ≡ some t → t ≤ 63) → chain (gives x) f ≡ gives (thenStep x f)
     second none l = refl
     second (some t) l = ap (λ (c : Bool). refuseIf c 2 (gives (f t))) (le-ltb 63 t (l t refl))
 
-    go : (c : Bool) → ltb 63 s ≡ c → chain (refuseIf c 2 (gives x)) (λ t. onSquare t (gives (f t))) ≡ refuseIf c 2 (gives (thenStep x f))
+    go : (c : Bool) → ltb 63 s ≡ c → chain (refuseIf c 2 (gives x)) f ≡ refuseIf c 2 (gives (thenStep x f))
     go true e = refl
     go false e = second x (low (ltb-false 63 s e))
 
@@ -50,10 +50,10 @@ right-low s h t e = unless-low (eqb (fileOf s) 7) t (8 * rankOf s + (fileOf s + 
     inner : (s % 8 ≡ 7 → ⊥) → 8 * (s / 8) + (s % 8 + 1) ≤ 63
     inner ne = omega arith
 
-pub left-then : (s : ℕ) (f : ℕ → Option ℕ) → chain (onSquare s (gives (leftOf s))) (λ t. onSquare t (gives (f t))) ≡ onSquare s (gives (thenStep (leftOf s) f))
+pub left-then : (s : ℕ) (f : ℕ → Option ℕ) → chain (onSquare s (gives (leftOf s))) f ≡ onSquare s (gives (thenStep (leftOf s) f))
 left-then s f = chain-then s (leftOf s) f (left-low s)
 
-pub right-then : (s : ℕ) (f : ℕ → Option ℕ) → chain (onSquare s (gives (rightOf s))) (λ t. onSquare t (gives (f t))) ≡ onSquare s (gives (thenStep (rightOf s) f))
+pub right-then : (s : ℕ) (f : ℕ → Option ℕ) → chain (onSquare s (gives (rightOf s))) f ≡ onSquare s (gives (thenStep (rightOf s) f))
 right-then s f = chain-then s (rightOf s) f (right-low s)
 
 -- ---- by the direction's number

@@ -4,20 +4,19 @@
 // number, any number: the same without refusals, under names in `_at`.
 // Ports: src/gen_tables/magic_helpers.rs (lines 16 to 138). The lists of direction functions became a direction number
 // and a match, the vectors of questions and answers the functions `subset` and `walk` of a number; `rightshift` is from
-// src/gen_tables/magic.rs (line 84).
+// src/gen_tables/magic.rs (line 80).
 // Adds: refusals 1 and 2. `random_bitboard` is the crate `splitmix`'s.
 use refusal::Answer;
-use refusal::Refusal;
 use square::Step;
 ghost use mathlib.Core.Path.{_≡_};
 ghost use Prim.Native.Nat.{_≤_, _<_};
 ghost use Rattle.refusal.specs.Paper.{said, gives};
 ghost use Rattle.bits.specs.Set.{setOf};
-ghost use Rattle.square.specs.Square.{stepped, onSquare, upSaid, downSaid};
+ghost use Rattle.square.specs.Square.{stepped, onSquare};
 ghost use Rattle.board.specs.Board.{cutOff, mask, attack, onBlock};
 ghost use Rattle.board.specs.Blocks.{kindOf, squareOf, bitsOf, sizeOf, shiftOf, subset as subsetOf};
 ghost use Rattle.board.specs.Walk.{step, line, upTo};
-ghost use Rattle.magic_helpers.specs.Chain.{chain};
+ghost use Rattle.magic_helpers.specs.Chain.{verticalOf, chain};
 
 // ---- masks
 
@@ -71,22 +70,22 @@ pub fn subset_at(block: usize, i: u64) -> u64
 
 // ---- the walk
 
-// A second step from where a first one led.
-fn then_up(first: Step) -> Step
-    ensures { λ r. ⌜ stepped r ≡ chain (stepped first) upSaid ⌝ }
+// Up or down.
+fn vertical(upward: bool, sq: u8) -> Step
+    ensures { λ r. ⌜ stepped r ≡ onSquare sq (gives (verticalOf upward sq)) ⌝ }
 {
-    match first {
-        Step::To(t) => square::up(t),
-        Step::Off => Step::Off,
-        Step::Refused(refusal) => Step::Refused(refusal),
+    if upward {
+        return square::up(sq);
     }
+    square::down(sq)
 }
 
-fn then_down(first: Step) -> Step
-    ensures { λ r. ⌜ stepped r ≡ chain (stepped first) downSaid ⌝ }
+// A second step, up or down, from where a first one led.
+fn then_vertical(first: Step, upward: bool) -> Step
+    ensures { λ r. ⌜ stepped r ≡ chain (stepped first) (verticalOf upward) ⌝ }
 {
     match first {
-        Step::To(t) => square::down(t),
+        Step::To(t) => vertical(upward, t),
         Step::Off => Step::Off,
         Step::Refused(refusal) => Step::Refused(refusal),
     }
@@ -109,10 +108,10 @@ fn bishop_step(direction: u8, sq: u8) -> Step
     ensures { λ r. ⌜ stepped r ≡ onSquare sq (gives (step 1 direction sq)) ⌝ }
 {
     match direction {
-        0 => then_up(square::left(sq)),
-        1 => then_up(square::right(sq)),
-        2 => then_down(square::left(sq)),
-        _ => then_down(square::right(sq)),
+        0 => then_vertical(square::left(sq), true),
+        1 => then_vertical(square::right(sq), true),
+        2 => then_vertical(square::left(sq), false),
+        _ => then_vertical(square::right(sq), false),
     }
 }
 
@@ -139,10 +138,11 @@ fn ray(kind: u8, direction: u8, sq: u8, blockers: u64) -> u64
             Step::Off => return set,
             Step::Refused(_) => return set,
         };
-        set |= 1 << t;
-        if (blockers >> t) & 1 == 1 {
-            return set;
+        let one: u64 = 1 << t;
+        if blockers & one != 0 {
+            return set | one;
         }
+        set |= one;
         at = t;
         n += 1;
     }
@@ -165,60 +165,47 @@ pub fn walk_at(block: usize, blockers: u64) -> u64
 pub fn magic_mask(kind: u8, sq: u8) -> Answer
     ensures { λ r. ⌜ said r ≡ onBlock kind sq (gives (mask kind sq)) ⌝ }
 {
-    if 1 < kind {
-        return Answer::Refuses(Refusal::Kind);
+    match rays::block(kind, sq) {
+        Answer::Gives(b) => Answer::Gives(mask_at(b as usize)),
+        Answer::Refuses(refusal) => Answer::Refuses(refusal),
     }
-    if 63 < sq {
-        return Answer::Refuses(Refusal::Square);
-    }
-    Answer::Gives(mask_at(rays::block_of(kind, sq)))
 }
 
 pub fn size(kind: u8, sq: u8) -> Answer
     ensures { λ r. ⌜ said r ≡ onBlock kind sq (gives (sizeOf kind sq)) ⌝ }
 {
-    if 1 < kind {
-        return Answer::Refuses(Refusal::Kind);
+    match rays::block(kind, sq) {
+        Answer::Gives(b) => Answer::Gives(size_at(b as usize) as u64),
+        Answer::Refuses(refusal) => Answer::Refuses(refusal),
     }
-    if 63 < sq {
-        return Answer::Refuses(Refusal::Square);
-    }
-    Answer::Gives(size_at(rays::block_of(kind, sq)) as u64)
 }
 
 pub fn rightshift(kind: u8, sq: u8) -> Answer
     ensures { λ r. ⌜ said r ≡ onBlock kind sq (gives (shiftOf kind sq)) ⌝ }
 {
-    if 1 < kind {
-        return Answer::Refuses(Refusal::Kind);
+    match rays::block(kind, sq) {
+        Answer::Gives(b) => {
+            let shift = shift_at(b as usize) as u64;
+            Answer::Gives(shift)
+        }
+        Answer::Refuses(refusal) => Answer::Refuses(refusal),
     }
-    if 63 < sq {
-        return Answer::Refuses(Refusal::Square);
-    }
-    let shift = shift_at(rays::block_of(kind, sq)) as u64;
-    Answer::Gives(shift)
 }
 
 pub fn subset(kind: u8, sq: u8, i: u64) -> Answer
     ensures { λ r. ⌜ said r ≡ onBlock kind sq (gives (subsetOf kind sq i)) ⌝ }
 {
-    if 1 < kind {
-        return Answer::Refuses(Refusal::Kind);
+    match rays::block(kind, sq) {
+        Answer::Gives(b) => Answer::Gives(subset_at(b as usize, i)),
+        Answer::Refuses(refusal) => Answer::Refuses(refusal),
     }
-    if 63 < sq {
-        return Answer::Refuses(Refusal::Square);
-    }
-    Answer::Gives(subset_at(rays::block_of(kind, sq), i))
 }
 
 pub fn walk(kind: u8, sq: u8, blockers: u64) -> Answer
     ensures { λ r. ⌜ said r ≡ onBlock kind sq (gives (attack kind sq blockers)) ⌝ }
 {
-    if 1 < kind {
-        return Answer::Refuses(Refusal::Kind);
+    match rays::block(kind, sq) {
+        Answer::Gives(b) => Answer::Gives(walk_at(b as usize, blockers)),
+        Answer::Refuses(refusal) => Answer::Refuses(refusal),
     }
-    if 63 < sq {
-        return Answer::Refuses(Refusal::Square);
-    }
-    Answer::Gives(walk_at(rays::block_of(kind, sq), blockers))
 }

@@ -1,6 +1,6 @@
 // Rays: the squares that a piece would attack on an empty board.
 //
-// Holds: block numbers, the test for one square, the rays by a loop over the board (`gen_rays`) and by a match that
+// Holds: block numbers with refusals 1 and 2, the test for one square, the rays by a loop over the board (`gen_rays`) and by a match that
 // compiles to one load (`rays_at`, `get_rays`): a `const` array would be built anew at each use.
 // Ports: src/gen_tables/rays.rs (lines 11 to 51). The two tables RAYS[1] and RAYS[0] became blocks 0 to 63 and 64 to 127.
 // Adds: refusals 1 and 2.
@@ -13,14 +13,22 @@ ghost use Rattle.board.specs.Board.{dist, aligned, onRay, onBlock, rays};
 ghost use Rattle.board.specs.Blocks.{blockOf, kindOf, squareOf};
 ghost use Rattle.rays.specs.Table.{table};
 
-// Block number: bishop on s is s, rook on s is 64 + s.
-pub fn block_of(kind: u8, sq: u8) -> usize
-    ensures { λ r. ⌜ r ≡ blockOf kind sq ⌝ }
+// The block of a kind and a square. Block number: bishop on s is s, rook on s is 64 + s. Refusal 1 before 2.
+pub fn block(kind: u8, sq: u8) -> Answer
+    ensures { λ r. ⌜ said r ≡ onBlock kind sq (gives (blockOf kind sq)) ⌝ }
 {
-    if kind == 0 {
-        return 64 + sq as usize;
+    if 1 < kind {
+        return Answer::Refuses(Refusal::Kind);
     }
-    sq as usize
+    if 63 < sq {
+        return Answer::Refuses(Refusal::Square);
+    }
+    let bishop = sq as u64;
+    let rook = 64 + bishop;
+    if kind == 0 {
+        return Answer::Gives(rook);
+    }
+    Answer::Gives(bishop)
 }
 
 fn gap(a: u8, b: u8) -> u8
@@ -216,12 +224,8 @@ pub fn rays_at(block: usize) -> u64
 pub fn get_rays(kind: u8, sq: u8) -> Answer
     ensures { λ r. ⌜ said r ≡ onBlock kind sq (gives (rays kind sq)) ⌝ }
 {
-    if 1 < kind {
-        return Answer::Refuses(Refusal::Kind);
+    match block(kind, sq) {
+        Answer::Gives(b) => Answer::Gives(rays_at(b as usize)),
+        Answer::Refuses(refusal) => Answer::Refuses(refusal),
     }
-    if 63 < sq {
-        return Answer::Refuses(Refusal::Square);
-    }
-    let block = block_of(kind, sq);
-    Answer::Gives(rays_at(block))
 }

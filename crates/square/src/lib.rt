@@ -2,7 +2,7 @@
 //
 // Holds: make_square, get_rank, get_file, the four steps that answer `Off` at the board's edge, and square names read
 // and written. A square is a plain u8, 0 to 63; any u8 is taken.
-// Ports: src/square.rs (lines 69 to 189 and 969 to 1003); `Option<Square>` became the enum `Step`, `Result` an `Answer`,
+// Ports: src/square.rs (lines 70 to 184 and 969 to 1005); `Option<Square>` became the enum `Step`, `Result` an `Answer`,
 // `Display` the function `to_name`.
 // Adds: refusal 2 for a square above 63, a rank or file above 7 and a name that can't be read.
 use refusal::Answer;
@@ -130,9 +130,8 @@ pub fn from_str(name: &[u8]) -> Answer
     if b'8' < figure {
         return Answer::Refuses(Refusal::Square);
     }
-    let rank = figure - b'1';
-    let file = letter - b'a';
-    make_square(rank, file)
+    let sq = (8 * (figure - b'1') + (letter - b'a')) as u64;
+    Answer::Gives(sq)
 }
 
 pub fn to_name(sq: u8) -> Name

@@ -59,22 +59,16 @@ module _ (c : tie.After-known-told Inv-loop μ-loop) where
       let p = c .before .before .before .before .before .before .pre in
       step-low _ _ _ _ (p .0) (c .before .before .before .before .before .loop .inv .1) (p .1) is-step
 
-cast-set : tie.Need-cast-set Inv-loop μ-loop
-cast-set c = search needs
+cast-one : tie.Need-cast-one Inv-loop μ-loop
+cast-one c = search needs
 
-shl-set : tie.Need-shl-set Inv-loop μ-loop
-shl-set c = low c
-
-cast-if1 : tie.Need-cast-if1 Inv-loop μ-loop
-cast-if1 c = search needs
-
-shr-if1 : tie.Need-shr-if1 Inv-loop μ-loop
-shr-if1 c = low c
+shl-one : tie.Need-shl-one Inv-loop μ-loop
+shl-one c = low c
 
 returns-3 : tie.Need-returns-3 Inv-loop μ-loop
 returns-3 c =
     let l = c .before .before .before .before .before .before .loop in
-    along-stop _ (l .n) _ _ _ (l .set) _ (l .inv .2) _ (is-step (c .before)) (c .before .before .before .before .before .loop-test .taken) (low (c .before)) (c .if1 .taken)
+    along-stop _ (l .n) _ _ _ (l .set) _ (l .inv .2) _ (is-step (c .before)) (c .before .before .before .before .before .loop-test .taken) (low (c .before)) _ refl (c .if1 .taken)
 
 add-n : tie.Need-add-n Inv-loop μ-loop
 add-n c = search needs
@@ -87,7 +81,7 @@ loop-again c =
     let l = c .before .before .before .before .before .before .loop in (
       omega arith,
       low (c .before),
-      along-on _ (l .n) _ _ _ (l .set) _ (l .inv .2) _ (is-step (c .before)) (c .before .before .before .before .before .loop-test .taken) (low (c .before)) (c .if1 .left),
+      along-on _ (l .n) _ _ _ (l .set) _ (l .inv .2) _ (is-step (c .before)) (c .before .before .before .before .before .loop-test .taken) (low (c .before)) _ refl (c .if1 .left),
     )
 
 returns-4 : tie.Need-returns-4 Inv-loop μ-loop
@@ -106,10 +100,8 @@ ray-spec =
     returns
     enum-told-2
     returns-2
-    cast-set
-    shl-set
-    cast-if1
-    shr-if1
+    cast-one
+    shl-one
     returns-3
     add-n
     loop-less

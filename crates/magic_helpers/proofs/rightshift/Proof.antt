@@ -1,19 +1,17 @@
--- `magic_helpers::rightshift` meets its contract, by the tests that led to each answer.
+-- `magic_helpers::rightshift` meets its contract: by the block that the kind and the square have, or their refusal.
+use mathlib.Core.Path.{sym, ap, _∙_}
 use borrow.Author.Needs.{needs}
-use borrow.Author.Tests.{lt-ltb, le-ltb}
-use Rattle.board.specs.Blocks.{shiftOf}
-use Rattle.board.proofs.Blocks.{on-block}
+use Rattle.refusal.specs.Paper.{said}
+use Rattle.board.specs.Blocks.{blockOf, shiftOf}
+use Rattle.board.proofs.Blocks.{by-block, refused-block}
 use Rattle.magic_helpers.proofs.rightshift.Statement.{statement}
 use Rattle.magic_helpers.proofs.rightshift.Tie as tie
 
-returns : tie.Need-returns
-returns c = simp (lt-ltb _ _ (c .if1 .taken))
+block-requires : tie.Need-block-requires
+block-requires c κs = search needs
 
-returns-2 : tie.Need-returns-2
-returns-2 c = simp (le-ltb _ _ (c .before .if1 .left), lt-ltb _ _ (c .if2 .taken))
-
-block-of-requires : tie.Need-block-of-requires
-block-of-requires c κs = search needs
+enum-known-b : tie.Need-enum-known-b
+enum-known-b c = search needs
 
 shift-at-requires : tie.Need-shift-at-requires
 shift-at-requires c κs = search needs
@@ -21,11 +19,22 @@ shift-at-requires c κs = search needs
 cast-shift : tie.Need-cast-shift
 cast-shift c = search needs
 
-returns-3 : tie.Need-returns-3
-returns-3 c =
-    let a = c .before .before .before .before .args in
-    on-block (a .kind) (a .sq) (c .before .block-of .result) (c .shift-at .result) shiftOf
-    (c .before .before .before .if1 .left) (c .before .before .if2 .left) (c .before .block-of .ensures) (c .shift-at .ensures)
+enum-known-refusal : tie.Need-enum-known-refusal
+enum-known-refusal c = search needs
+
+returns : tie.Need-returns
+returns c =
+    let found = c .before .before .before .before in
+    let a = found .before .args in
+    by-block (a .kind) (a .sq) (c .before .before .b .given .0 .0) (c .shift-at .result) shiftOf
+    (ap said (sym (c .before .before .b .given .1)) ∙ found .block .ensures) (c .shift-at .ensures)
+
+returns-2 : tie.Need-returns-2
+returns-2 c =
+    let found = c .before .before .before in
+    let a = found .before .args in
+    refused-block (a .kind) (a .sq) _ _ (blockOf (a .kind) (a .sq)) (shiftOf (a .kind) (a .sq))
+    (ap said (sym (c .before .refusal .given .1)) ∙ found .block .ensures)
 
 pub rightshift-spec : {M : Type 1} → statement M
-rightshift-spec = tie.close (tie.spec returns returns-2 block-of-requires shift-at-requires cast-shift returns-3)
+rightshift-spec = tie.close (tie.spec block-requires enum-known-b shift-at-requires cast-shift enum-known-refusal returns returns-2)

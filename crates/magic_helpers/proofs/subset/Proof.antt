@@ -1,29 +1,38 @@
--- `magic_helpers::subset` meets its contract, by the tests that led to each answer.
+-- `magic_helpers::subset` meets its contract: by the block that the kind and the square have, or their refusal.
 use Prim.Native.Nat.{ℕ}
+use mathlib.Core.Path.{sym, ap, _∙_}
 use borrow.Author.Needs.{needs}
-use borrow.Author.Tests.{lt-ltb, le-ltb}
-use Rattle.board.specs.Blocks.{subset}
-use Rattle.board.proofs.Blocks.{on-block}
+use Rattle.refusal.specs.Paper.{said}
+use Rattle.board.specs.Blocks.{blockOf, subset}
+use Rattle.board.proofs.Blocks.{by-block, refused-block}
 use Rattle.magic_helpers.proofs.subset.Statement.{statement}
 use Rattle.magic_helpers.proofs.subset.Tie as tie
 
-returns : tie.Need-returns
-returns c = simp (lt-ltb _ _ (c .if1 .taken))
+block-requires : tie.Need-block-requires
+block-requires c κs = search needs
 
-returns-2 : tie.Need-returns-2
-returns-2 c = simp (le-ltb _ _ (c .before .if1 .left), lt-ltb _ _ (c .if2 .taken))
-
-block-of-requires : tie.Need-block-of-requires
-block-of-requires c κs = search needs
+enum-known-b : tie.Need-enum-known-b
+enum-known-b c = search needs
 
 subset-at-requires : tie.Need-subset-at-requires
 subset-at-requires c κs = search needs
 
-returns-3 : tie.Need-returns-3
-returns-3 c =
-    let a = c .before .before .before .before .args in
-    on-block (a .kind) (a .sq) (c .before .block-of .result) (c .subset-at .result) (λ (k s : ℕ). subset k s (a .i))
-    (c .before .before .before .if1 .left) (c .before .before .if2 .left) (c .before .block-of .ensures) (c .subset-at .ensures)
+enum-known-refusal : tie.Need-enum-known-refusal
+enum-known-refusal c = search needs
+
+returns : tie.Need-returns
+returns c =
+    let found = c .before .before .before .before in
+    let a = found .before .args in
+    by-block (a .kind) (a .sq) (c .before .before .b .given .0 .0) (c .subset-at .result) (λ (k s : ℕ). subset k s (a .i))
+    (ap said (sym (c .before .before .b .given .1)) ∙ found .block .ensures) (c .subset-at .ensures)
+
+returns-2 : tie.Need-returns-2
+returns-2 c =
+    let found = c .before .before .before in
+    let a = found .before .args in
+    refused-block (a .kind) (a .sq) _ _ (blockOf (a .kind) (a .sq)) (subset (a .kind) (a .sq) (a .i))
+    (ap said (sym (c .before .refusal .given .1)) ∙ found .block .ensures)
 
 pub subset-spec : {M : Type 1} → statement M
-subset-spec = tie.close (tie.spec returns returns-2 block-of-requires subset-at-requires returns-3)
+subset-spec = tie.close (tie.spec block-requires enum-known-b subset-at-requires enum-known-refusal returns returns-2)

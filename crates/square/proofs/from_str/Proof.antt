@@ -1,8 +1,4 @@
--- `square::from_str` meets its contract, by the tests that led to each answer; the last is `make_square`'s, whose rank and file are below 8 here.
-use Prim.Native.Nat.{_-_, _≤_}
-use mathlib.Core.Path.{_≡_, _∙_}
-use native.Mathlib.Omega.{arith}
-use lib.ListN.{getD}
+-- `square::from_str` meets its contract, by the tests that led to each answer.
 use borrow.Author.Needs.{needs}
 use borrow.Author.Tests.{lt-ltb, le-ltb}
 use Rattle.square.proofs.from_str.Statement.{statement}
@@ -44,21 +40,23 @@ returns-5 c =
       lt-ltb _ _ (c .if5 .taken),
     )
 
-make-square-requires : tie.Need-make-square-requires
-make-square-requires c κs = search needs
+mul-sq : tie.Need-mul-sq
+mul-sq c = search needs
+
+add-sq : tie.Need-add-sq
+add-sq c = search needs
+
+cast-sq : tie.Need-cast-sq
+cast-sq c = search needs
 
 returns-6 : tie.Need-returns-6
 returns-6 c =
-    let bytes = c .before .before .before .before .before .before .before .before .before .args .name .now in
-    let rank : getD bytes 1 0 - 49 ≤ 7 = omega arith in
-    let file : getD bytes 0 0 - 97 ≤ 7 = omega arith in
-    (simp (le-ltb _ _ rank, le-ltb _ _ file) at (c .make-square .ensures))
-    ∙ simp (
-      le-ltb _ _ (c .before .before .before .before .before .before .before .if1 .left),
-      le-ltb _ _ (c .before .before .before .before .if2 .left),
-      le-ltb _ _ (c .before .before .before .if3 .left),
-      le-ltb _ _ (c .before .before .if4 .left),
-      le-ltb _ _ (c .before .if5 .left),
+    simp (
+      le-ltb _ _ (c .before .before .before .before .before .before .if1 .left),
+      le-ltb _ _ (c .before .before .before .if2 .left),
+      le-ltb _ _ (c .before .before .if3 .left),
+      le-ltb _ _ (c .before .if4 .left),
+      le-ltb _ _ (c .if5 .left),
     )
 
 pub from-str-spec : {M : Type 1} → statement M
@@ -72,5 +70,7 @@ from-str-spec =
     returns-3
     returns-4
     returns-5
-    make-square-requires
+    mul-sq
+    add-sq
+    cast-sq
     returns-6)

@@ -25,11 +25,11 @@ loop-less c = search needs
 loop-again : tie.Need-loop-again Inv-loop μ-loop
 loop-again c = search needs
 
-row-requires : tie.Need-row-requires Inv-loop μ-loop
-row-requires c κs = search needs
+both-rows-requires : tie.Need-both-rows-requires Inv-loop μ-loop
+both-rows-requires c κs = search needs
 
-row-requires-2 : tie.Need-row-requires-2 Inv-loop μ-loop
-row-requires-2 c κs = search needs
+both-rows-requires-2 : tie.Need-both-rows-requires-2 Inv-loop μ-loop
+both-rows-requires-2 c κs = search needs
 
 returns : tie.Need-returns Inv-loop μ-loop
 returns c = search needs
@@ -45,6 +45,6 @@ rows-spec =
     add-n
     loop-less
     loop-again
-    row-requires
-    row-requires-2
+    both-rows-requires
+    both-rows-requires-2
     returns)
