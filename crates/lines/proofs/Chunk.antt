@@ -89,15 +89,16 @@ module _ (p : Pending) (chunk out₀ : List ℕ) where
         }
 
   -- all of the bytes for which there is room
-  pub fed-all : (i : ℕ) (state : Pending) (at : ℕ) (out : List ℕ) → FedTo p chunk out₀ i state at out → i ≡ min (length chunk) (roomFor (length out₀)) → (record { pending = state; len = at; used = i } ≡ fedOf p chunk (length out₀)) × (out ≡ over (written p (taken chunk (length out₀))) out₀)
+  pub fed-all : (n i : ℕ) (state : Pending) (at : ℕ) (out : List ℕ) → FedTo p chunk out₀ i state at out → i ≡ n → n ≡ min (length chunk) (roomFor (length out₀)) → (record { pending = state; len = at; used = n } ≡ fedOf p chunk (length out₀)) × (out ≡ over (written p (taken chunk (length out₀))) out₀)
   unfolding fedOf taken
-  fed-all i state at out f e =
-      let t : take i chunk ≡ taken chunk (length out₀) = ap (λ (n : ℕ). take n chunk) e ∙ take-min chunk (roomFor (length out₀)) in
-      let n : i ≡ length (take i chunk) = omega (arith, length-take i chunk) in
-      let all : List ℕ → Fed = λ s. record { pending = after p s; len = length (written p s); used = length s } in (
-        ap (λ (q : Pending). record { pending = q; len = at; used = i }) (f .state-is)
-            ∙ ap (λ (k : ℕ). record { pending = after p (take i chunk); len = k; used = i }) (f .at-is)
-            ∙ ap (λ (k : ℕ). record { pending = after p (take i chunk); len = length (written p (take i chunk)); used = k }) n
-            ∙ ap all t,
-        f .out-is ∙ ap (λ (s : List ℕ). over (written p s) out₀) t,
-      )
+  fed-all n i state at out f e g =
+      let s = take i chunk in
+      let t : s ≡ taken chunk (length out₀) = ap (λ (k : ℕ). take k chunk) (e ∙ g) ∙ take-min chunk (roomFor (length out₀)) in
+      let used : n ≡ length s = omega (arith, length-take i chunk) in
+      (of-parts s (f .state-is) (f .at-is) used ∙ ap all t, f .out-is ∙ ap (λ (s : List ℕ). over (written p s) out₀) t)
+    where
+      all : List ℕ → Fed
+      all s = record { pending = after p s; len = length (written p s); used = length s }
+
+      of-parts : (s : List ℕ) → state ≡ after p s → at ≡ length (written p s) → n ≡ length s → record { pending = state; len = at; used = n } ≡ all s
+      of-parts s a b c = cc

@@ -1,6 +1,6 @@
 -- `lines::feed` meets its contract: before turn i, the state, the length and the buffer are what i bytes of the chunk make them.
-use Prim.Native.Nat.{ℕ, _+_, _-_, _≤_, _<_}
-use mathlib.Core.Path.{_≡_, sym, ap, _∙_}
+use Prim.Native.Nat.{_+_, _-_, _≤_, _<_}
+use mathlib.Core.Path.{_≡_}
 use native.Mathlib.Omega.{arith}
 use lib.ListN.{length, getD, length-take, length-drop}
 use borrow.Author.Needs.{needs}
@@ -96,9 +96,8 @@ returns : tie.Need-returns Inv-loop μ-loop
 returns c =
     let a = start (c .before) .args in
     let l = c .before .loop in
-    let n : l .i ≡ c .before .before .least .result = omega arith in
-    let all = fed-all (a .pending) (a .chunk .now) (a .out .now) (l .i) (l .state) (l .at) (l .out) (l .inv .1) (omega arith) in
-    (ap (λ (k : ℕ). record { pending = l .state; len = l .at; used = k }) (sym n) ∙ all .0, all .1)
+    fed-all (a .pending) (a .chunk .now) (a .out .now) (c .before .before .least .result) (l .i) (l .state) (l .at) (l .out) (l .inv .1)
+    (omega arith) (omega arith)
 
 pub feed-spec : {M : Type 1} → statement M
 feed-spec =
