@@ -10,6 +10,7 @@ pub mod Algebra
 pub mod Shown
 pub mod Gather
 pub mod Listing
+pub mod Parts
 pub mod Least
 pub mod Turn
 pub mod Halves

@@ -1,11 +1,14 @@
 -- Laws of lists that show a function's values.
 -- Assumes nothing.
-use Prim.Native.Nat.{ℕ, zero, suc, _<_, suc-le-suc}
-use mathlib.Core.Path.{_≡_, refl, ap, ap₂}
-use mathlib.Core.List.{List, [], _∷_, map}
-use native.Mathlib.Nat.{zero-lt-suc}
-use lib.ListN.{length}
-use Rattle.bits.specs.Shown.{shown}
+use Prim.Native.Nat.{ℕ, zero, suc, _+_, _≤_, _<_, suc-le-suc}
+use mathlib.Core.Path.{_≡_, refl, sym, ap, ap₂, _∙_}
+use mathlib.Core.List.{List, [], _∷_, _++_, map}
+use native.Mathlib.Nat.{add-zero, add-suc, zero-lt-suc, le-of-eq, le-of-suc-le-suc, not-suc-le-zero}
+use native.Mathlib.Numerals.{add-one}
+use native.Mathlib.Omega.{arith}
+use lib.ListN.{length, getD, take, set}
+use lib.Seq.{take-all, take-suc-set}
+use Rattle.bits.specs.Shown.{shown, sum}
 
 pub shown-cong {ℓ} : {A : Type ℓ} (n : ℕ) (f g : ℕ → A) → ((i : ℕ) → i < n → f i ≡ g i) → shown n f ≡ shown n g
 unfolding shown
@@ -21,3 +24,35 @@ pub length-shown {ℓ} : {A : Type ℓ} (n : ℕ) (f : ℕ → A) → length (sh
 unfolding shown
 length-shown zero f = refl
 length-shown (suc n) f = ap suc (length-shown n (λ i. f (suc i)))
+
+-- ---- a loop that stores f 0, f 1, .. in turn
+
+shown-more : (n : ℕ) (f : ℕ → ℕ) → shown (suc n) f ≡ shown n f ++ (f n ∷ [])
+unfolding shown
+shown-more zero f = refl
+shown-more (suc n) f = ap (λ (l : List ℕ). f zero ∷ l) (shown-more n (λ i. f (suc i)))
+
+pub shown-store : (i v : ℕ) (l : List ℕ) (f : ℕ → ℕ) → take i l ≡ shown i f → i < length l → v ≡ f i → take (i + 1) (set l i v) ≡ shown (i + 1) f
+shown-store i v l f e h q =
+    ap (λ (n : ℕ). take n (set l i v)) (add-one i) ∙ take-suc-set l i v h ∙ ap₂ (λ (a : List ℕ) (x : ℕ). a ++ (x ∷ [])) e q
+    ∙ sym (shown-more i f) ∙ ap (λ (n : ℕ). shown n f) (sym (add-one i))
+
+pub shown-whole : (n : ℕ) (l : List ℕ) (f : ℕ → ℕ) → length l ≡ n → take n l ≡ shown n f → l ≡ shown n f
+shown-whole n l f e q = sym (take-all n l (le-of-eq e)) ∙ q
+
+pub getD-shown : (n i : ℕ) (f : ℕ → ℕ) (d : ℕ) → i < n → getD (shown n f) i d ≡ f i
+unfolding shown
+getD-shown zero i f d h = absurd (not-suc-le-zero h)
+getD-shown (suc n) zero f d h = refl
+getD-shown (suc n) (suc i) f d h = getD-shown n i (λ j. f (suc j)) d (le-of-suc-le-suc h)
+
+-- ---- sums
+
+pub sum-more : (n : ℕ) (f : ℕ → ℕ) → sum (n + 1) f ≡ sum n f + f n
+unfolding sum
+sum-more n f = ap (λ (m : ℕ). sum m f) (add-one n)
+
+pub sum-mono : (n k : ℕ) (f : ℕ → ℕ) → sum n f ≤ sum (n + k) f
+unfolding sum
+sum-mono n zero f = le-of-eq (ap (λ (m : ℕ). sum m f) (sym (add-zero n)))
+sum-mono n (suc k) f = let e : sum (n + suc k) f ≡ sum (n + k) f + f (n + k) = ap (λ (m : ℕ). sum m f) (add-suc n k) in omega (arith, sum-mono n k f)

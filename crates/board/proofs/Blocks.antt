@@ -3,12 +3,11 @@
 use Prim.Native.Nat.{ℕ, zero, suc, _+_, _-_, _/_, _%_, _≤_, _<_}
 use mathlib.Core.Path.{_≡_, refl, ap, ap₂, _∙_}
 use native.Mathlib.Omega.{arith}
-use borrow.Author.Tests.{le-ltb, ltb-false}
+use borrow.Author.Tests.{ltb-false}
 use lib.Dec.{ltb}
 use mathlib.Core.Bool.{Bool, true, false}
 use mathlib.Core.List.{List}
 use Rattle.refusal.specs.Paper.{Said, gives, refuses, refuseIf, andThen}
-use Rattle.refusal.proofs.Said.{gives-same, gives-not}
 use Rattle.board.specs.Board.{onBlock}
 use Rattle.board.specs.Blocks.{blockOf, kindOf, squareOf}
 
@@ -42,28 +41,35 @@ square-block (suc k) s hs = omega arith
 
 -- ---- answers by the block of a kind and a square
 
--- what is given is not refused
-not-refused : {A : Type 0} {x y : A} (k s : ℕ) → gives x ≡ onBlock k s (gives y) → (x ≡ y) × (k ≤ 1) × (s ≤ 63)
-not-refused {A} {x} {y} k s = go (ltb 1 k) refl (ltb 63 s) refl
+-- the refusals do not look at what would be given
+pub block-then : {A B : Type 0} (k s : ℕ) (x : Said A) (f : A → Said B) → andThen (onBlock k s x) f ≡ onBlock k s (andThen x f)
+block-then k s x f = go (ltb 1 k) (ltb 63 s)
   where
-    go : (p : Bool) → ltb 1 k ≡ p → (q : Bool) → ltb 63 s ≡ q → gives x ≡ refuseIf p 1 (refuseIf q 2 (gives y)) → (x ≡ y) × (k ≤ 1) × (s ≤ 63)
-    go true a q b e = absurd (gives-not e)
-    go false a true b e = absurd (gives-not e)
-    go false a false b e = (gives-same e, ltb-false 1 k a, ltb-false 63 s b)
-
-pub by-block : (k s b r : ℕ) (f : ℕ → ℕ → ℕ) → gives b ≡ onBlock k s (gives (blockOf k s)) → r ≡ f (kindOf b) (squareOf b) → gives r ≡ onBlock k s (gives (f k s))
-by-block k s b r f e q =
-    let n = not-refused k s e in
-    let hk : k ≤ 1 = n .1 in
-    let hs : s ≤ 63 = n .2 in
-    ap gives (q ∙ ap₂ f (ap kindOf (n .0) ∙ kind-block k s (omega arith) (omega arith)) (ap squareOf (n .0) ∙ square-block k s (omega arith)))
-    ∙ simp (le-ltb 1 k hk, le-ltb 63 s hs)
-
--- what is refused is refused whatever would be given
-pub refused-block : {A B : Type 0} (k s n : ℕ) (l : List ℕ) (x : A) (y : B) → refuses n l ≡ onBlock k s (gives x) → refuses n l ≡ onBlock k s (gives y)
-refused-block {A} {B} k s n l x y e = ap (λ (z : Said A). andThen z (λ _. gives y)) e ∙ go (ltb 1 k) (ltb 63 s)
-  where
-    go : (p q : Bool) → andThen (refuseIf p 1 (refuseIf q 2 (gives x))) (λ _. gives y) ≡ refuseIf p 1 (refuseIf q 2 (gives y))
+    go : (p q : Bool) → andThen (refuseIf p 1 (refuseIf q 2 x)) f ≡ refuseIf p 1 (refuseIf q 2 (andThen x f))
     go true q = refl
     go false true = refl
     go false false = refl
+
+-- and what would be given counts only where nothing is refused
+pub block-cong : {A : Type 0} (k s : ℕ) (x y : Said A) → (k ≤ 1 → s ≤ 63 → x ≡ y) → onBlock k s x ≡ onBlock k s y
+block-cong k s x y h = go (ltb 1 k) refl (ltb 63 s) refl
+  where
+    go : (p : Bool) → ltb 1 k ≡ p → (q : Bool) → ltb 63 s ≡ q → refuseIf p 1 (refuseIf q 2 x) ≡ refuseIf p 1 (refuseIf q 2 y)
+    go true a q b = refl
+    go false a true b = refl
+    go false a false b = h (ltb-false 1 k a) (ltb-false 63 s b)
+
+-- by the block's number to the kind and the square
+pub block-back : {A : Type 0} (k s : ℕ) (f : ℕ → ℕ → Said A) → onBlock k s (f (kindOf (blockOf k s)) (squareOf (blockOf k s))) ≡ onBlock k s (f k s)
+block-back k s f =
+    block-cong k s (f (kindOf (blockOf k s)) (squareOf (blockOf k s))) (f k s)
+    (λ hk hs. ap₂ f (kind-block k s (omega arith) (omega arith)) (square-block k s (omega arith)))
+
+pub by-block : {A : Type 0} (k s b : ℕ) (f : ℕ → ℕ → Said A) → gives b ≡ onBlock k s (gives (blockOf k s)) → f (kindOf b) (squareOf b) ≡ onBlock k s (f k s)
+by-block k s b f e =
+    ap (λ (z : Said ℕ). andThen z (λ n. f (kindOf n) (squareOf n))) e
+    ∙ block-then k s (gives (blockOf k s)) (λ n. f (kindOf n) (squareOf n)) ∙ block-back k s f
+
+-- what is refused is refused whatever would be given
+pub refused-block : {A B : Type 0} (k s n : ℕ) (l : List ℕ) (x : A) (y : Said B) → refuses n l ≡ onBlock k s (gives x) → refuses n l ≡ onBlock k s y
+refused-block {A} k s n l x y e = ap (λ (z : Said A). andThen z (λ _. y)) e ∙ block-then k s (gives x) (λ _. y)

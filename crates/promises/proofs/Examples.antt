@@ -1,9 +1,26 @@
 -- The examples hold: computed from the definitions.
 -- Assumes nothing.
-use mathlib.Core.Path.{refl}
+use Prim.Native.Nat.{_+_}
+use mathlib.Core.Path.{_≡_, refl, ap, _∙_}
+use lib.Dec.{lit<}
+use Rattle.bits.specs.Intel.{pext, pextTurns, setBit}
+use Rattle.bits.specs.Set.{has}
+use Rattle.bits.specs.Shown.{sum}
 use Rattle.board.specs.Board.{rays, mask, attack}
+use Rattle.board.specs.Blocks.{sizeOf, subset}
+use Rattle.bmis.specs.Bmis.{sizeAt, offsetOf, entry, entriesTo}
+use Rattle.bmis.proofs.Entries.{entry-is}
 use Rattle.promises.specs.Examples.{All, table}
 
+-- entry 65 stands in the first block, rook A1's
+first-size : sizeOf 0 0 ≡ 4096
+unfolding sizeOf
+first-size = refl
+
+entry-65 : entry 0 0 65 ≡ 129
+unfolding entry pext attack subset rays
+entry-65 = refl
+
 pub examples : All table
-unfolding rays mask attack
-examples = (refl, (refl, (refl, (refl, (refl, (refl, (refl, (refl, tt))))))))
+unfolding rays mask attack pext offsetOf sum sizeAt sizeOf
+examples = (refl, (refl, (refl, (refl, (refl, (refl, (refl, (refl, (refl, (entry-is 0 0 65 (lit< tt) (lit< tt) (lit< tt) ∙ entry-65, (refl, (refl, (refl, (refl, (refl, (refl, tt))))))))))))))))

@@ -2,7 +2,10 @@
 use Prim.Native.Nat.{ℕ, _+_, _-_, _^_}
 use mathlib.Core.Path.{_≡_}
 use mathlib.Core.List.{List, [], _∷_}
+use lib.ListN.{getD}
+use Rattle.bits.specs.Intel.{pext}
 use Rattle.board.specs.Board.{rays, mask, attack}
+use Rattle.bmis.specs.Bmis.{offsetOf, entriesTo}
 
 -- every entry holds
 abbrev pub All : List (Type 0) → Type 0
@@ -24,4 +27,14 @@ table =
     ∷ (attack 0 0 (2 ^ 7 + 2 ^ 56) ≡ rays 0 0)
     -- rook H8, no blockers: 0x7F80808080808080
     ∷ (attack 0 63 0 ≡ 0x7F80808080808080)
+    -- blockers 0x102 extract through rook A1's mask to 65; entry 65 of the PEXT table is 129
+    ∷ (pext 0x102 (mask 0 0) ≡ 65)
+    ∷ (getD (entriesTo 128) 65 0 ≡ 129)
+    -- PEXT offsets: bishop A1 4,096; rook B1 4,160; bishop B1 6,208; rook C1 6,240; rook H8 103,488; bishop H8 107,584
+    ∷ (offsetOf 1 0 ≡ 4096)
+    ∷ (offsetOf 0 1 ≡ 4160)
+    ∷ (offsetOf 1 1 ≡ 6208)
+    ∷ (offsetOf 0 2 ≡ 6240)
+    ∷ (offsetOf 0 63 ≡ 103488)
+    ∷ (offsetOf 1 63 ≡ 107584)
     ∷ []

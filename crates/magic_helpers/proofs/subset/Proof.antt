@@ -2,7 +2,7 @@
 use Prim.Native.Nat.{ℕ}
 use mathlib.Core.Path.{sym, ap, _∙_}
 use borrow.Author.Needs.{needs}
-use Rattle.refusal.specs.Paper.{said}
+use Rattle.refusal.specs.Paper.{gives, said}
 use Rattle.board.specs.Blocks.{blockOf, subset}
 use Rattle.board.proofs.Blocks.{by-block, refused-block}
 use Rattle.magic_helpers.proofs.subset.Statement.{statement}
@@ -24,14 +24,15 @@ returns : tie.Need-returns
 returns c =
     let found = c .before .before .before .before in
     let a = found .before .args in
-    by-block (a .kind) (a .sq) (c .before .before .b .given .0 .0) (c .subset-at .result) (λ (k s : ℕ). subset k s (a .i))
-    (ap said (sym (c .before .before .b .given .1)) ∙ found .block .ensures) (c .subset-at .ensures)
+    ap gives (c .subset-at .ensures)
+    ∙ by-block (a .kind) (a .sq) (c .before .before .b .given .0 .0) (λ (k s : ℕ). gives (subset k s (a .i)))
+    (ap said (sym (c .before .before .b .given .1)) ∙ found .block .ensures)
 
 returns-2 : tie.Need-returns-2
 returns-2 c =
     let found = c .before .before .before in
     let a = found .before .args in
-    refused-block (a .kind) (a .sq) _ _ (blockOf (a .kind) (a .sq)) (subset (a .kind) (a .sq) (a .i))
+    refused-block (a .kind) (a .sq) _ _ (blockOf (a .kind) (a .sq)) (gives (subset (a .kind) (a .sq) (a .i)))
     (ap said (sym (c .before .refusal .given .1)) ∙ found .block .ensures)
 
 pub subset-spec : {M : Type 1} → statement M

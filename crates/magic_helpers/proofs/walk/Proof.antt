@@ -2,7 +2,7 @@
 use Prim.Native.Nat.{ℕ}
 use mathlib.Core.Path.{sym, ap, _∙_}
 use borrow.Author.Needs.{needs}
-use Rattle.refusal.specs.Paper.{said}
+use Rattle.refusal.specs.Paper.{gives, said}
 use Rattle.board.specs.Board.{attack}
 use Rattle.board.specs.Blocks.{blockOf}
 use Rattle.board.proofs.Blocks.{by-block, refused-block}
@@ -25,14 +25,15 @@ returns : tie.Need-returns
 returns c =
     let found = c .before .before .before .before in
     let a = found .before .args in
-    by-block (a .kind) (a .sq) (c .before .before .b .given .0 .0) (c .walk-at .result) (λ (k s : ℕ). attack k s (a .blockers))
-    (ap said (sym (c .before .before .b .given .1)) ∙ found .block .ensures) (c .walk-at .ensures)
+    ap gives (c .walk-at .ensures)
+    ∙ by-block (a .kind) (a .sq) (c .before .before .b .given .0 .0) (λ (k s : ℕ). gives (attack k s (a .blockers)))
+    (ap said (sym (c .before .before .b .given .1)) ∙ found .block .ensures)
 
 returns-2 : tie.Need-returns-2
 returns-2 c =
     let found = c .before .before .before in
     let a = found .before .args in
-    refused-block (a .kind) (a .sq) _ _ (blockOf (a .kind) (a .sq)) (attack (a .kind) (a .sq) (a .blockers))
+    refused-block (a .kind) (a .sq) _ _ (blockOf (a .kind) (a .sq)) (gives (attack (a .kind) (a .sq) (a .blockers)))
     (ap said (sym (c .before .refusal .given .1)) ∙ found .block .ensures)
 
 pub walk-spec : {M : Type 1} → statement M

@@ -1,0 +1,5 @@
+pub mod Sums
+pub mod Entries
+pub mod Filling
+pub mod InTable
+pub mod Unique
