@@ -1,0 +1,4 @@
+pub mod Line
+pub mod Stream
+pub mod Calls
+pub mod Run
