@@ -3,11 +3,11 @@
 use Prim.Native.Nat.{ℕ, _+_, _≤_, _<_}
 use mathlib.Core.Path.{_≡_, refl, sym, ap, ap₂, _∙_}
 use mathlib.Core.Bool.{Bool, true, false, not}
-use mathlib.Core.List.{List}
+use mathlib.Core.List.{List, []}
 use native.Mathlib.Omega.{arith}
 use borrow.Author.Tests.{eqb-true}
 use lib.Dec.{ltb, eqb}
-use lib.ListN.{length, getD, take, drop}
+use lib.ListN.{length, getD, take, drop, length-take, length-drop}
 use Rattle.refusal.specs.Paper.{Said, gives, refuses, refuseIf, andThen}
 use Rattle.refusal.proofs.Said.{gives-not}
 use Rattle.bits.specs.Intel.{pext, pdep}
@@ -15,9 +15,20 @@ use Rattle.bits.proofs.Parts.{getD-part}
 use Rattle.board.specs.Board.{rays, mask, onBlock}
 use Rattle.board.specs.Blocks.{blockOf, kindOf, squareOf, sizeOf}
 use Rattle.board.proofs.Blocks.{block-then, block-back, kind-lt, square-lt}
+use Rattle.board.proofs.Sizes.{size-low}
 use Rattle.board.proofs.Subsets.{index-lt}
-use Rattle.bmis.specs.Bmis.{ofLength, inTable, offsetOf, lookUp}
+use Rattle.bmis.specs.Bmis.{ofLength, inTable, offsetOf, lookUp, partOf}
 use Rattle.bmis.proofs.Sums.{offset-within}
+
+-- "Order: 1, 2, 9": each where the later ones hold too
+pub kind-first : inTable {A = ℕ} 2 64 0 (gives 0) ≡ refuses 1 []
+kind-first = refl
+
+pub square-second : inTable {A = ℕ} 0 64 0 (gives 0) ≡ refuses 2 []
+square-second = refl
+
+pub length-last : inTable {A = ℕ} 0 63 0 (gives 0) ≡ refuses 9 []
+length-last = refl
 
 length-then : {A B : Type 0} (n : ℕ) (x : Said A) (f : A → Said B) → andThen (ofLength n x) f ≡ ofLength n (andThen x f)
 length-then n x f = go (eqb n 107648)
@@ -55,6 +66,14 @@ right-length k s n b c e = go (ltb 1 k) (ltb 63 s) (eqb n 107648) refl e
 
 pub part-ends : (b : ℕ) → offsetOf (kindOf b) (squareOf b) + sizeOf (kindOf b) (squareOf b) ≤ 107648
 part-ends b = offset-within (kindOf b) (squareOf b) (kind-lt b) (square-lt b)
+
+-- a block's part is as long as the block; so "the empty part, which no block is"
+pub part-long : (k s : ℕ) (table : List ℕ) → k < 2 → s < 64 → length table ≡ 107648 → length (partOf k s table) ≡ sizeOf k s
+unfolding partOf
+part-long k s table hk hs e = omega (arith, length-take (sizeOf k s) (drop (offsetOf k s) table), length-drop (offsetOf k s) table, offset-within k s hk hs)
+
+pub part-some : (k s : ℕ) (table : List ℕ) → k < 2 → s < 64 → length table ≡ 107648 → partOf k s table ≡ [] → ⊥
+part-some k s table hk hs e q = let l : length (partOf k s table) ≡ 0 = ap length q in omega (arith, part-long k s table hk hs e, size-low k s hk hs)
 
 -- the look-up in the part is the look-up in the whole
 pub look-part : (b blockers offset size k : ℕ) (table : List ℕ) → offset ≡ offsetOf (kindOf b) (squareOf b) → size ≡ sizeOf (kindOf b) (squareOf b) → k ≡ size → pdep (getD (take k (drop offset table)) (pext blockers (mask (kindOf b) (squareOf b))) 0) (rays (kindOf b) (squareOf b)) ≡ lookUp (kindOf b) (squareOf b) blockers table

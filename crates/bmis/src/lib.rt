@@ -45,8 +45,10 @@ pub fn offset_at(block: usize) -> usize
 fn entry_at(block: usize, i: usize) -> u16
     ensures { λ r. ⌜ r ≡ entry (kindOf block) (squareOf block) i ⌝ }
 {
-    let walk = magic_helpers::walk_at(block, magic_helpers::subset_at(block, i as u64));
-    let packed = bits::extract(walk, rays::rays_at(block));
+    let mask = magic_helpers::mask_at(block);
+    let rays = rays::rays_at(block);
+    let walk = magic_helpers::walk_at(block, bits::deposit(i as u64, mask));
+    let packed = bits::extract(walk, rays);
     packed as u16
 }
 

@@ -17,16 +17,11 @@ use Rattle.bits.proofs.Algebra.{or-in, or-absorbs}
 use Rattle.bits.proofs.Shown.{length-shown}
 use Rattle.board.specs.Board.{onRay, rays, mask, between, clear, attack}
 use Rattle.board.specs.Blocks.{bitsOf, sizeOf, subset}
-use Rattle.board.specs.Crate.{get-rays, magic-mask, questions, answers}
+use Rattle.board.specs.Crate.{get-rays, magic-mask, questions, answers, orAll}
 use Rattle.board.proofs.Attack.{attack-rays}
 use Rattle.board.proofs.Subsets.{subset-in-mask, subset-first, subset-last}
 use Rattle.board.proofs.CrateBoard.{crate-rays, crate-mask}
 use Rattle.board.proofs.CrateQuestions.{crate-questions, crate-answers}
-
--- `fold(EMPTY, |b, n| b | n)`
-unfoldable pub orAll : List ℕ → ℕ
-orAll [] = 0
-orAll (x ∷ l) = bitOr x (orAll l)
 
 -- sets that lie in one set, which is among them: their OR is that set
 or-all-in : (m n : ℕ) (f : ℕ → ℕ) → ((i : ℕ) → i < n → bitAnd (f i) m ≡ f i) → bitAnd (orAll (shown n f)) m ≡ orAll (shown n f)

@@ -11,11 +11,7 @@ use Rattle.bits.specs.Shown.{sum}
 use Rattle.bits.proofs.Every.{both-l, both-r, every-at}
 use Rattle.square.specs.Square.{rankOf, fileOf}
 use Rattle.board.specs.Board.{outer}
-use Rattle.board.specs.Blocks.{bitsOf, sizeOf, shiftOf}
-
--- "Mask bits: rook 12 in a corner, 11 elsewhere on an edge, 10 inside"
-abbrev pub rookBits : ℕ → ℕ
-rookBits s = pick (outer (rankOf s) && outer (fileOf s)) 12 (pick (outer (rankOf s) || outer (fileOf s)) 11 10)
+use Rattle.board.specs.Blocks.{bitsOf, rookBits, sizeOf, shiftOf}
 
 rook-test : T (every 64 (λ s. eqb (bitsOf 0 s) (rookBits s)))
 unfolding every bitsOf outer

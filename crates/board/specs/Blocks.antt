@@ -1,8 +1,9 @@
 -- Blocks: a kind and a square. 01, "The board".
 use Prim.Native.Nat.{ℕ, zero, suc, _+_, _-_, _/_, _%_, _^_}
-use mathlib.Core.Bool.{_&&_}
-use Rattle.bits.specs.Set.{has, setOf, countBelow, count}
-use Rattle.board.specs.Board.{rays, inMask, mask, attack}
+use mathlib.Core.Bool.{_&&_, _||_}
+use Rattle.bits.specs.Set.{pick, has, setOf, countBelow, count}
+use Rattle.square.specs.Square.{rankOf, fileOf}
+use Rattle.board.specs.Board.{outer, rays, inMask, mask, attack}
 
 -- "Block number: bishop on s is s, rook on s is 64 + s." The numbers go on past 127, as before, so that each has a block
 unfoldable pub blockOf : ℕ → ℕ → ℕ
@@ -14,6 +15,10 @@ kindOf block = 1 - block / 64 % 2
 
 unfoldable pub squareOf : ℕ → ℕ
 squareOf block = block % 64
+
+-- "Mask bits: rook 12 in a corner, 11 elsewhere on an edge, 10 inside"
+abbrev pub rookBits : ℕ → ℕ
+rookBits s = pick (outer (rankOf s) && outer (fileOf s)) 12 (pick (outer (rankOf s) || outer (fileOf s)) 11 10)
 
 -- "A block has 2^bits slots; its shift is 64 - bits"
 unfoldable pub bitsOf : ℕ → ℕ → ℕ

@@ -139,3 +139,8 @@ questions piece sq = rays-to-questions (magic-mask piece sq)
 unfoldable pub answers : ℕ → ℕ → List ℕ
 unfolding questions answer
 answers piece sq = map (answer piece sq) (questions piece sq)
+
+-- generate_magic's `fold(EMPTY, |b, n| b | n)` (src/gen_tables/magic.rs, lines 53 and 55)
+unfoldable pub orAll : List ℕ → ℕ
+orAll [] = 0
+orAll (x ∷ l) = bitOr x (orAll l)

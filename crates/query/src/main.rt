@@ -16,8 +16,14 @@ struct Turn {
     more: bool,
 }
 
-// Reads a chunk, and writes the answers of the lines that end in it. A read that fails ends the input. The buffer has
-// room for what a whole chunk makes written, so that none of it is left over.
+// The line that has begun, to be answered if the input ends here; none, where a read or a write failed: such a line was
+// cut, and nothing is answered that was not asked.
+fn kept(whole: bool, pending: Pending) -> Pending {
+    if whole { pending } else { lines::start() }
+}
+
+// Reads a chunk, and writes the answers of the lines that end in it. A read or a write that fails ends the run. The
+// buffer has room for what a whole chunk makes written, so that none of it is left over.
 fn one_turn(pending: Pending, chunk: &mut [u8], out: &mut [u8]) -> Turn
     requires { ⌜ length (now chunk) ≡ 16384 ⌝ }
     requires { ⌜ length (now out) ≡ 32812 ⌝ }
@@ -25,16 +31,17 @@ fn one_turn(pending: Pending, chunk: &mut [u8], out: &mut [u8]) -> Turn
     let got = libc::read(STDIN_FILENO, chunk);
     let n = io::count(got, chunk);
     if n == 0 {
+        let last = kept(got == 0, pending);
         return Turn {
-            pending,
+            pending: last,
             more: false,
         };
     }
     let fed = lines::feed(pending, &chunk[0..n], out);
     check::expect(fed.used == n);
     let len = fed.len;
-    let next = fed.pending;
     let more = io::write_all(STDOUT_FILENO, &out[0..len]);
+    let next = kept(more, fed.pending);
     Turn {
         pending: next,
         more,
@@ -64,7 +71,9 @@ fn main() {
     let mut chunk = [0u8; 16384];
     let mut out = [0u8; 32812];
     let head = lines::header();
-    io::write_all(STDOUT_FILENO, &head);
+    if !io::write_all(STDOUT_FILENO, &head) {
+        return;
+    }
     let pending = all_turns(&mut chunk, &mut out);
     let len = lines::finish(pending, &mut out);
     io::write_all(STDOUT_FILENO, &out[0..len]);

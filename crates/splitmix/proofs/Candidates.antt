@@ -3,11 +3,7 @@
 use Prim.Native.Nat.{ℕ, suc, _+_, _*_}
 use mathlib.Core.Path.{_≡_, refl, ap}
 use native.Mathlib.Omega.{arith}
-use Rattle.splitmix.specs.SplitMix.{advanced, mixed, after, output, candidateOf, candidate}
-
--- the state from which candidate i is drawn
-unfoldable pub stateAt : ℕ → ℕ → ℕ
-stateAt seed i = after (3 * i) seed
+use Rattle.splitmix.specs.SplitMix.{advanced, mixed, after, output, candidateOf, stateAt, candidate}
 
 pub state-first : (seed : ℕ) → seed ≡ stateAt seed 0
 unfolding stateAt after
@@ -21,7 +17,7 @@ state-next seed i = ap (λ (n : ℕ). after n seed) three
     three = omega arith
 
 pub candidate-is : (seed i : ℕ) → candidateOf (stateAt seed i) ≡ candidate seed i
-unfolding stateAt candidate
+unfolding candidate
 candidate-is seed i = refl
 
 -- the published outputs from state 0

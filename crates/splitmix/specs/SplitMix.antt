@@ -36,6 +36,10 @@ moved g = record { state = after 3 (g .state) }
 abbrev pub drawn : Generator → Drawn
 drawn g = record { candidate = candidateOf (g .state); next = moved g }
 
--- "Every block starts again from the same seed": candidate i of a seed, i counted from 0
+-- the state from which candidate i of a seed is drawn, i counted from 0
+unfoldable pub stateAt : ℕ → ℕ → ℕ
+stateAt seed i = after (3 * i) seed
+
+-- "Every block starts again from the same seed": candidate i of a seed
 unfoldable pub candidate : ℕ → ℕ → ℕ
-candidate seed i = candidateOf (after (3 * i) seed)
+candidate seed i = candidateOf (stateAt seed i)

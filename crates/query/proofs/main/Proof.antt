@@ -15,6 +15,9 @@ slice-aggregate-write-all c = search needs
 write-all-requires : tie.Need-write-all-requires
 write-all-requires c κs = search needs
 
+returns : tie.Need-returns
+returns c = search needs
+
 slice-aggregate-all-turns : tie.Need-slice-aggregate-all-turns
 slice-aggregate-all-turns c = search needs
 
@@ -44,8 +47,8 @@ part-write-all-end c =
 write-all-requires-2 : tie.Need-write-all-requires-2
 write-all-requires-2 c κs = search needs
 
-returns : tie.Need-returns
-returns c = search needs
+returns-2 : tie.Need-returns-2
+returns-2 c = search needs
 
 pub main-spec : {M : Type 1} → statement M
 main-spec =
@@ -54,6 +57,7 @@ main-spec =
     header-requires
     slice-aggregate-write-all
     write-all-requires
+    returns
     slice-aggregate-all-turns
     slice-aggregate-all-turns-2
     all-turns-requires
@@ -63,4 +67,4 @@ main-spec =
     part-write-all-start
     part-write-all-end
     write-all-requires-2
-    returns)
+    returns-2)

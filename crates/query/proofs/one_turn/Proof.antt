@@ -16,6 +16,9 @@ read-requires c κs = search needs
 count-requires : tie.Need-count-requires
 count-requires c κs = search needs
 
+kept-requires : tie.Need-kept-requires
+kept-requires c κs = search needs
+
 same-length : tie.Need-same-length
 same-length c = search needs
 
@@ -53,17 +56,20 @@ part-write-all-start c = search needs
 
 part-write-all-end : tie.Need-part-write-all-end
 part-write-all-end c =
-    let start = c .before .before .before .before .before .before .before .before .before .before .before .before .before .before .before .before .before .before .before in
-    let n = c .before .before .before .before .before .before .before .before .before .before .before .count .result in
-    let chunk = c .before .before .before .before .before .before .before .before .before .before .before .before .before .before .before .read .last .1 .0 in
+    let start = c .before .before .before .before .before .before .before .before .before .before .before .before .before .before .before .before .before .before in
+    let n = c .before .before .before .before .before .before .before .before .before .before .count .result in
+    let chunk = c .before .before .before .before .before .before .before .before .before .before .before .before .before .before .read .last .1 .0 in
     omega (
       arith,
-      ap (λ (r : Fed). r .len) (c .before .before .before .before .before .before .feed .ensures .0),
+      ap (λ (r : Fed). r .len) (c .before .before .before .before .before .feed .ensures .0),
       fed-fits (start .args .pending) (take (n - 0) chunk) (length (start .args .out .now)),
     )
 
 write-all-requires : tie.Need-write-all-requires
 write-all-requires c κs = search needs
+
+kept-requires-2 : tie.Need-kept-requires-2
+kept-requires-2 c κs = search needs
 
 same-length-2 : tie.Need-same-length-2
 same-length-2 c = search needs
@@ -80,6 +86,7 @@ one-turn-spec =
     (tie.spec
     read-requires
     count-requires
+    kept-requires
     same-length
     returns
     sub-feed
@@ -91,6 +98,7 @@ one-turn-spec =
     part-write-all-start
     part-write-all-end
     write-all-requires
+    kept-requires-2
     same-length-2
     same-length-3
     returns-2)
