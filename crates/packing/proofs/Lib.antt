@@ -5,3 +5,7 @@ pub mod Run
 pub mod Success
 pub mod Choices
 pub mod Seed
+pub mod Sound
+pub mod Packed
+pub mod Right
+pub mod Exactly
