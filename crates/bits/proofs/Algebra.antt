@@ -2,12 +2,12 @@
 -- Assumes nothing.
 use Prim.Native.Nat.{ℕ, zero, suc, _+_, _^_, _≤_, _<_}
 use mathlib.Core.Path.{_≡_, refl, sym, ap, ap₂, _∙_}
-use mathlib.Core.Bool.{Bool, true, false, _&&_, _||_, or-assoc, and-false, and-or-distrib-right}
+use mathlib.Core.Bool.{Bool, true, false, _&&_, _||_, or-assoc, and-assoc, and-false, and-or-distrib-right}
 use native.Mathlib.Nat.{pow-suc}
 use native.Mathlib.Omega.{arith}
 use borrow.Author.Tests.{eqb-true}
 use lib.Dec.{eqb}
-use lib.Bits.{bitAnd, bitOr, and-comm}
+use lib.Bits.{bitAnd, bitOr, and-comm, or-comm, and-zero-l, and-zero-r}
 use lib.Pow.{pow-pos, pow-mono}
 use Rattle.bits.specs.Set.{pick, has}
 use Rattle.bits.proofs.Sets.{has-ext, has-and, has-or, has-pow, has-zero}
@@ -26,6 +26,9 @@ has-ext-all a b h =
 pub bitOr-assoc : (a b c : ℕ) → bitOr (bitOr a b) c ≡ bitOr a (bitOr b c)
 bitOr-assoc a b c = has-ext-all _ _ (λ t. simp has-or (or-assoc (has a t) (has b t) (has c t)))
 
+pub bitAnd-assoc : (a b c : ℕ) → bitAnd (bitAnd a b) c ≡ bitAnd a (bitAnd b c)
+bitAnd-assoc a b c = has-ext-all _ _ (λ t. simp has-and (and-assoc (has a t) (has b t) (has c t)))
+
 -- ---- subsets: `bitAnd a m ≡ a`
 
 pub bitAnd-or : (a b c : ℕ) → bitAnd (bitOr a b) c ≡ bitOr (bitAnd a c) (bitAnd b c)
@@ -41,6 +44,25 @@ or-absorbs m a p = ap (bitOr m) (sym p) ∙ has-ext-all _ _ (λ t. simp (has-or,
     absorb : (x y : Bool) → (x || (y && x)) ≡ x
     absorb true y = refl
     absorb false y = and-false y
+
+pub in-or-l : (a b : ℕ) → bitAnd a (bitOr a b) ≡ a
+in-or-l a b = has-ext-all _ _ (λ t. simp (has-or, has-and) (absorb (has a t) (has b t)))
+  where
+    absorb : (x y : Bool) → (x && (x || y)) ≡ x
+    absorb true y = refl
+    absorb false y = refl
+
+pub in-or-r : (a b : ℕ) → bitAnd b (bitOr a b) ≡ b
+in-or-r a b = ap (bitAnd b) (or-comm a b) ∙ in-or-l b a
+
+pub in-trans : (a b c : ℕ) → bitAnd a b ≡ a → bitAnd b c ≡ b → bitAnd a c ≡ a
+in-trans a b c p q = ap (λ (x : ℕ). bitAnd x c) (sym p) ∙ bitAnd-assoc a b c ∙ ap (bitAnd a) q ∙ p
+
+-- subsets of two sets that share nothing share nothing
+pub apart : (a b m r : ℕ) → bitAnd a m ≡ a → bitAnd b r ≡ b → bitAnd m r ≡ 0 → bitAnd a b ≡ 0
+apart a b m r p q z =
+    ap₂ bitAnd (sym p) (sym q ∙ and-comm b r) ∙ bitAnd-assoc a m (bitAnd r b)
+    ∙ ap (bitAnd a) (sym (bitAnd-assoc m r b) ∙ ap (λ (x : ℕ). bitAnd x b) z ∙ and-zero-l b) ∙ and-zero-r a
 
 -- ---- one square
 

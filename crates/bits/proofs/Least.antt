@@ -2,7 +2,7 @@
 -- Assumes nothing.
 use mathlib.Core.Path.{_≡_, refl, sym, ap, _∙_, subst}
 use mathlib.Core.Bool.{Bool, true, false}
-use Prim.Native.Nat.{ℕ, zero, suc, _/_, _%_, _^_, _≤_, _<_, suc-le-suc}
+use Prim.Native.Nat.{ℕ, zero, suc, _/_, _%_, _^_, _≤_, _<_, zero-le, suc-le-suc}
 use native.Mathlib.Nat.{not-suc-le-zero, le-of-suc-le-suc, pow-suc}
 use native.Mathlib.Omega.{arith}
 use native.Mathlib.Decide.{decLt}
@@ -19,6 +19,40 @@ least-is (suc n) p zero h t f = rw (t, least)
 least-is (suc n) p (suc i) h t f =
     rw (f 0 (omega arith), least)
     (ap suc (least-is n (λ j. p (suc j)) i (le-of-suc-le-suc h) t (λ j l. f (suc j) (suc-le-suc l))))
+
+-- ---- what the least number has
+
+-- its first step, at the test's answer for zero
+abbrev first : Bool → ℕ → ℕ
+first c r = elim c as (λ _. ℕ) [ true ↦ zero | false ↦ suc r ]
+
+pub least-le : (n : ℕ) (p : ℕ → Bool) → least n p ≤ n
+unfolding least
+least-le zero p = zero-le
+least-le (suc n) p = go (p zero) (least-le n (λ j. p (suc j)))
+  where
+    go : (c : Bool) {r : ℕ} → r ≤ n → first c r ≤ suc n
+    go true h = zero-le
+    go false h = suc-le-suc h
+
+pub least-passes : (n : ℕ) (p : ℕ → Bool) → least n p < n → p (least n p) ≡ true
+unfolding least
+least-passes zero p h = absurd (not-suc-le-zero h)
+least-passes (suc n) p h = go (p zero) refl (least-passes n (λ j. p (suc j))) h
+  where
+    go : (c : Bool) → p zero ≡ c → {r : ℕ} → (r < n → p (suc r) ≡ true) → first c r < suc n → p (first c r) ≡ true
+    go true e ih l = e
+    go false e ih l = ih (le-of-suc-le-suc l)
+
+pub least-before : (n : ℕ) (p : ℕ → Bool) (j : ℕ) → j < least n p → p j ≡ false
+unfolding least
+least-before zero p j h = absurd (not-suc-le-zero h)
+least-before (suc n) p j h = go j (p zero) refl (least-before n (λ j. p (suc j))) h
+  where
+    go : (j : ℕ) (c : Bool) → p zero ≡ c → {r : ℕ} → ((i : ℕ) → i < r → p (suc i) ≡ false) → j < first c r → p j ≡ false
+    go j true e ih l = absurd (not-suc-le-zero l)
+    go zero false e ih l = e
+    go (suc j) false e ih l = ih j (le-of-suc-le-suc l)
 
 -- ---- trailing zeros
 

@@ -1,6 +1,6 @@
 -- Laws of lists that show a function's values.
 -- Assumes nothing.
-use Prim.Native.Nat.{ℕ, zero, suc, _+_, _≤_, _<_, suc-le-suc}
+use Prim.Native.Nat.{ℕ, zero, suc, _+_, _-_, _≤_, _<_, suc-le-suc}
 use mathlib.Core.Path.{_≡_, refl, sym, ap, ap₂, _∙_}
 use mathlib.Core.List.{List, [], _∷_, _++_, map}
 use native.Mathlib.Nat.{add-zero, add-suc, zero-lt-suc, le-of-eq, le-of-suc-le-suc, not-suc-le-zero}
@@ -56,3 +56,9 @@ pub sum-mono : (n k : ℕ) (f : ℕ → ℕ) → sum n f ≤ sum (n + k) f
 unfolding sum
 sum-mono n zero f = le-of-eq (ap (λ (m : ℕ). sum m f) (sym (add-zero n)))
 sum-mono n (suc k) f = let e : sum (n + suc k) f ≡ sum (n + k) f + f (n + k) = ap (λ (m : ℕ). sum m f) (add-suc n k) in omega (arith, sum-mono n k f)
+
+-- a value and those before it, within the whole
+pub sum-within : (i n : ℕ) (f : ℕ → ℕ) → i < n → sum i f + f i ≤ sum n f
+sum-within i n f h =
+    let e : (i + 1) + (n - (i + 1)) ≡ n = omega arith in
+    omega (arith, sum-more i f, sum-mono (i + 1) (n - (i + 1)) f, ap (λ (m : ℕ). sum m f) e)

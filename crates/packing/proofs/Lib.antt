@@ -1,0 +1,11 @@
+pub mod Slots
+pub mod Largest
+pub mod Next
+pub mod Run
+pub mod Success
+pub mod Choices
+pub mod Seed
+pub mod Sound
+pub mod Packed
+pub mod Right
+pub mod Exactly
