@@ -87,3 +87,13 @@ every-one (suc n) t f h = go (eqb t n) refl (λ l. every-one n t f l)
         (every-cong n (λ u. not (eqb t u && f u)) (λ u. true) (λ u l. ap (λ (x : Bool). not (x && f u)) (ne-eqb t u (λ z. omega arith))) ∙ every-true n)
         ∙ and-true (not (f t))
     go false e ih = let ne : t ≡ n → ⊥ = eqb-false t n e in ih (omega arith)
+
+pub every-holds : (n : ℕ) (p : ℕ → Bool) → ((i : ℕ) → i < n → p i ≡ true) → every n p ≡ true
+every-holds n p h = every-cong n p (λ u. true) h ∙ every-true n
+
+pub every-fails : (n : ℕ) (p : ℕ → Bool) (i : ℕ) → i < n → p i ≡ false → every n p ≡ false
+every-fails n p i l e = go (every n p) refl
+  where
+    go : (c : Bool) → every n p ≡ c → c ≡ false
+    go true q = absurd (subst T e (every-at n p (subst T (sym q) tt) i l))
+    go false q = refl

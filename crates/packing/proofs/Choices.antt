@@ -11,10 +11,12 @@ use lib.Dec.{T, ltb}
 use Rattle.bits.specs.Set.{least}
 use Rattle.bits.proofs.Every.{is-true, both-r}
 use Rattle.bits.proofs.Least.{least-is, least-passes, least-before}
-use Rattle.packing.specs.Pack.{Blocks, passes, Taken, none, chosen, chosenIf, firstPassing, takenAt, bySearch, byLent, clean}
+use Rattle.packing.specs.declared.Taken.{Taken}
+use Rattle.packing.specs.declared.Choice.the-variants.{None, Chosen}
+use Rattle.packing.specs.Pack.{Blocks, passes, chosenIf, firstPassing, takenAt, bySearch, byLent, clean}
 use Rattle.packing.specs.Promised.{First, counted, lentAt}
 
-pub none≢chosen : {x : Taken} → none ≡ chosen x → ⊥
+pub none≢chosen : {x : Taken} → None ≡ Chosen x → ⊥
 none≢chosen {x} e = let z : _≡_ {A = ℕ} 0 1 = cc in omega arith
 
 module _ (B : Blocks) (candidate : ℕ → ℕ) where
@@ -23,11 +25,11 @@ module _ (B : Blocks) (candidate : ℕ → ℕ) where
     pub first : First B candidate budget b (firstPassing B candidate budget b)
     pub is : x ≡ counted candidate (firstPassing B candidate budget b)
 
-  pub found : (k b : ℕ) (x : Taken) → bySearch B candidate k b ≡ chosen x → Found k b x
+  pub found : (k b : ℕ) (x : Taken) → bySearch B candidate k b ≡ Chosen x → Found k b x
   unfolding bySearch takenAt firstPassing
   found k b x e = go (ltb (firstPassing B candidate k b) k) refl e
     where
-      go : (t : Bool) → ltb (firstPassing B candidate k b) k ≡ t → chosenIf t (counted candidate (firstPassing B candidate k b)) ≡ chosen x → Found k b x
+      go : (t : Bool) → ltb (firstPassing B candidate k b) k ≡ t → chosenIf t (counted candidate (firstPassing B candidate k b)) ≡ Chosen x → Found k b x
       go true h q =
           let l : firstPassing B candidate k b < k = ltb-true _ k h in
           record {
@@ -36,14 +38,14 @@ module _ (B : Blocks) (candidate : ℕ → ℕ) where
           }
       go false h q = absurd (none≢chosen q)
 
-  pub finds : (k b p : ℕ) → First B candidate k b p → bySearch B candidate k b ≡ chosen (counted candidate p)
+  pub finds : (k b p : ℕ) → First B candidate k b p → bySearch B candidate k b ≡ Chosen (counted candidate p)
   unfolding bySearch takenAt firstPassing
   finds k b p f =
       ap (takenAt candidate k) (least-is k (λ i. passes B b (candidate i)) p (f .within) (f .passing) (f .none-before))
       ∙ ap (λ (t : Bool). chosenIf t (counted candidate p)) (lt-ltb p k (f .within))
 
   -- no attempt, nothing found
-  pub search-none : (b : ℕ) → bySearch B candidate 0 b ≡ none
+  pub search-none : (b : ℕ) → bySearch B candidate 0 b ≡ None
   unfolding bySearch takenAt firstPassing least
   search-none b = refl
 
@@ -56,25 +58,25 @@ module _ (B : Blocks) (candidate : ℕ → ℕ) where
       go (no g) (yes l) = absurd (true≢false (sym (f′ .passing) ∙ f .none-before p′ l))
       go (no g) (no h) = omega arith
 
-  pub search-within : (k b : ℕ) (x : Taken) → bySearch B candidate k b ≡ chosen x → x .count ≤ k
+  pub search-within : (k b : ℕ) (x : Taken) → bySearch B candidate k b ≡ Chosen x → x .count ≤ k
   search-within k b x e = let f = found k b x e in omega (arith, f .first .within, ap (λ (y : Taken). y .count) (f .is))
 
   -- a budget that reaches the attempt count is enough
-  pub search-more : (k k′ b : ℕ) (x : Taken) → bySearch B candidate k b ≡ chosen x → x .count ≤ k′ → bySearch B candidate k′ b ≡ chosen x
+  pub search-more : (k k′ b : ℕ) (x : Taken) → bySearch B candidate k b ≡ Chosen x → x .count ≤ k′ → bySearch B candidate k′ b ≡ Chosen x
   search-more k k′ b x e h =
       let f = found k b x e in
       finds k′ b (firstPassing B candidate k b)
       (record { within = omega (arith, ap (λ (y : Taken). y .count) (f .is)); passing = f .first .passing; none-before = f .first .none-before })
-      ∙ ap chosen (sym (f .is))
+      ∙ ap Chosen (sym (f .is))
 
-  pub search-agrees : (k k′ b : ℕ) (x x′ : Taken) → bySearch B candidate k b ≡ chosen x → bySearch B candidate k′ b ≡ chosen x′ → x ≡ x′
+  pub search-agrees : (k k′ b : ℕ) (x x′ : Taken) → bySearch B candidate k b ≡ Chosen x → bySearch B candidate k′ b ≡ Chosen x′ → x ≡ x′
   search-agrees k k′ b x x′ e e′ =
       let f = found k b x e in
       let f′ = found k′ b x′ e′ in
       f .is ∙ ap (counted candidate) (one-first k k′ b _ _ (f .first) (f′ .first)) ∙ sym (f′ .is)
 
   -- what passes is clean
-  pub search-clean : (k b : ℕ) (x : Taken) → bySearch B candidate k b ≡ chosen x → clean B b (x .multiplier) ≡ true
+  pub search-clean : (k b : ℕ) (x : Taken) → bySearch B candidate k b ≡ Chosen x → clean B b (x .multiplier) ≡ true
   unfolding passes
   search-clean k b x e =
       let f = found k b x e in
@@ -82,17 +84,17 @@ module _ (B : Blocks) (candidate : ℕ → ℕ) where
       ap (λ (y : Taken). clean B b (y .multiplier)) (f .is) ∙ is-true (clean B b m) (both-r (not (B .skipped b m)) (clean B b m) (subst T (sym (f .first .passing)) tt))
 
 module _ (B : Blocks) (lent : ℕ → ℕ) where
-  pub lent-finds : (b : ℕ) → clean B b (lent b) ≡ true → byLent B lent b ≡ chosen (lentAt lent b)
+  pub lent-finds : (b : ℕ) → clean B b (lent b) ≡ true → byLent B lent b ≡ Chosen (lentAt lent b)
   unfolding byLent
   lent-finds b h = cc
 
-  pub lent-found : (b : ℕ) (x : Taken) → byLent B lent b ≡ chosen x → (clean B b (lent b) ≡ true) × (x ≡ lentAt lent b)
+  pub lent-found : (b : ℕ) (x : Taken) → byLent B lent b ≡ Chosen x → (clean B b (lent b) ≡ true) × (x ≡ lentAt lent b)
   unfolding byLent
   lent-found b x e = go (clean B b (lent b)) refl e
     where
-      go : (t : Bool) → clean B b (lent b) ≡ t → chosenIf t (lentAt lent b) ≡ chosen x → (t ≡ true) × (x ≡ lentAt lent b)
+      go : (t : Bool) → clean B b (lent b) ≡ t → chosenIf t (lentAt lent b) ≡ Chosen x → (t ≡ true) × (x ≡ lentAt lent b)
       go true h q = (refl, (cc))
       go false h q = absurd (none≢chosen q)
 
-  pub lent-clean : (b : ℕ) (x : Taken) → byLent B lent b ≡ chosen x → clean B b (x .multiplier) ≡ true
+  pub lent-clean : (b : ℕ) (x : Taken) → byLent B lent b ≡ Chosen x → clean B b (x .multiplier) ≡ true
   lent-clean b x e = let f = lent-found b x e in ap (λ (y : Taken). clean B b (y .multiplier)) (f .1) ∙ f .0

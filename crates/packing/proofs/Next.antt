@@ -4,7 +4,8 @@ use Prim.Native.Nat.{ℕ, _+_, _≤_, _<_}
 use mathlib.Core.Path.{_≡_, ap, _∙_}
 use native.Mathlib.Omega.{arith}
 use Rattle.bits.proofs.Least.{least-le}
-use Rattle.packing.specs.Pack.{Blocks, Taken, State, free, firstFree, place, put, next}
+use Rattle.packing.specs.declared.Taken.{Taken}
+use Rattle.packing.specs.Pack.{Blocks, State, free, firstFree, place, put, next}
 use Rattle.packing.proofs.Slots.{put-same, put-other}
 
 module _ (B : Blocks) (n : ℕ) (s : State) where

@@ -8,7 +8,10 @@ use native.Mathlib.Nat.{not-suc-le-zero, le-of-suc-le-suc, eq-or-lt-of-le}
 use native.Mathlib.Omega.{arith}
 use lib.Bits.{bitAnd, bitOr, and-comm, and-self, and-zero-l, or-zero-l, or-zero-r}
 use Rattle.bits.proofs.Algebra.{bitAnd-or, or-in, in-or-l, in-or-r, in-trans, apart}
-use Rattle.packing.specs.Pack.{Blocks, clean, Taken, Choice, chosen, State, start, hit, next}
+use Rattle.packing.specs.declared.Taken.{Taken}
+use Rattle.packing.specs.declared.Choice.{Choice}
+use Rattle.packing.specs.declared.Choice.the-variants.{Chosen}
+use Rattle.packing.specs.Pack.{Blocks, clean, State, start, hit, next}
 use Rattle.packing.specs.Promised.{Laws, slotOf}
 use Rattle.packing.proofs.Slots.{Hit, Missed, hits}
 use Rattle.packing.proofs.Next.{end-old, end-new, offset-at, offset-before, taken-at, taken-before}
@@ -103,7 +106,7 @@ module _ (B : Blocks) (L : Laws B) where
   start-sound : Sound B 0 start
   start-sound = record { within = λ j. and-zero-l 0; beyond = λ j h. refl; kept = λ b i h l. absurd (not-suc-le-zero h) }
 
-  pub sound : (len why : ℕ) (choice : ℕ → Choice) → ((b : ℕ) (x : Taken) → choice b ≡ chosen x → clean B b (x .multiplier) ≡ true) → (n : ℕ) (s : State) → n ≤ 128 → Ran B len why choice n s → Sound B n s
+  pub sound : (len why : ℕ) (choice : ℕ → Choice) → ((b : ℕ) (x : Taken) → choice b ≡ Chosen x → clean B b (x .multiplier) ≡ true) → (n : ℕ) (s : State) → n ≤ 128 → Ran B len why choice n s → Sound B n s
   sound len why choice good zero s h e = subst (Sound B 0) (sym (ran-none B len why choice s e)) start-sound
   sound len why choice good (suc n) s h e =
       let l = last B len why choice n s e in

@@ -7,7 +7,10 @@ use native.Mathlib.Nat.{le-refl}
 use native.Mathlib.Omega.{arith}
 use lib.Bits.{bitAnd, and-zero-r}
 use Rattle.bits.specs.Shown.{sum}
-use Rattle.packing.specs.Pack.{Blocks, clean, Taken, Choice, chosen, bySearch, byLent, State, done, seedBuild, lentBuild}
+use Rattle.packing.specs.declared.Taken.{Taken}
+use Rattle.packing.specs.declared.Choice.{Choice}
+use Rattle.packing.specs.declared.Choice.the-variants.{Chosen}
+use Rattle.packing.specs.Pack.{Blocks, clean, bySearch, byLent, State, done, seedBuild, lentBuild}
 use Rattle.packing.specs.Promised.{Laws, Right}
 use Rattle.packing.proofs.Run.{Ran}
 use Rattle.packing.proofs.Success.{end-fits, end-total, offset-end}
@@ -16,7 +19,7 @@ use Rattle.packing.proofs.Sound.{Sound}
 use Rattle.packing.proofs.Packed.{sound}
 
 module _ (B : Blocks) (L : Laws B) where
-  right : (len why : ℕ) (choice : ℕ → Choice) → ((b : ℕ) (x : Taken) → choice b ≡ chosen x → clean B b (x .multiplier) ≡ true) → (s : State) → Ran B len why choice 128 s → Right B len s
+  right : (len why : ℕ) (choice : ℕ → Choice) → ((b : ℕ) (x : Taken) → choice b ≡ Chosen x → clean B b (x .multiplier) ≡ true) → (s : State) → Ran B len why choice 128 s → Right B len s
   right len why choice good s e =
       let w : Sound B 128 s = sound B L len why choice good 128 s (le-refl 128) e in
       record {

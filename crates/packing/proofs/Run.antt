@@ -8,7 +8,10 @@ use native.Mathlib.Nat.{not-suc-le-zero, le-of-suc-le-suc, eq-or-lt-of-le}
 use native.Mathlib.Omega.{arith}
 use borrow.Author.Tests.{leb-true, leb-false, le-leb, lt-leb}
 use lib.Dec.{leb}
-use Rattle.packing.specs.Pack.{Blocks, Taken, Choice, none, chosen, State, place, next, Outcome, done, refused, tried, step, run}
+use Rattle.packing.specs.declared.Taken.{Taken}
+use Rattle.packing.specs.declared.Choice.{Choice}
+use Rattle.packing.specs.declared.Choice.the-variants.{None, Chosen}
+use Rattle.packing.specs.Pack.{Blocks, State, place, next, Outcome, done, refused, tried, step, run}
 
 pub done≢refused : {s : State} {k b : ℕ} → done s ≡ refused k b → ⊥
 done≢refused {s} {k} {b} e = let z : _≡_ {A = ℕ} 0 1 = cc in omega arith
@@ -26,7 +29,7 @@ module _ (B : Blocks) (len why : ℕ) (choice : ℕ → Choice) where
 
   -- ---- one block more
 
-  pub run-next : (n : ℕ) (t : State) (x : Taken) → Ran n t → Room n t → choice n ≡ chosen x → Ran (suc n) (next B n t x)
+  pub run-next : (n : ℕ) (t : State) (x : Taken) → Ran n t → Room n t → choice n ≡ Chosen x → Ran (suc n) (next B n t x)
   unfolding run step tried
   run-next n t x e h q = ap (step B len why choice n) e ∙ ap₂ (tried B why n t) (le-leb (place B n t + B .size n) len h) q
 
@@ -34,7 +37,7 @@ module _ (B : Blocks) (len why : ℕ) (choice : ℕ → Choice) where
   unfolding run step tried
   run-full n t e h = ap (step B len why choice n) e ∙ ap (λ (x : Bool). tried B why n t x (choice n)) (lt-leb (place B n t + B .size n) len h)
 
-  pub run-spent : (n : ℕ) (t : State) → Ran n t → Room n t → choice n ≡ none → run B len why choice (suc n) ≡ refused why n
+  pub run-spent : (n : ℕ) (t : State) → Ran n t → Room n t → choice n ≡ None → run B len why choice (suc n) ≡ refused why n
   unfolding run step tried
   run-spent n t e h q = ap (step B len why choice n) e ∙ ap₂ (tried B why n t) (le-leb (place B n t + B .size n) len h) q
 
@@ -44,17 +47,17 @@ module _ (B : Blocks) (len why : ℕ) (choice : ℕ → Choice) where
 
   -- and there is no other way
   data Way (n : ℕ) : Type 0 where
-    placed : (t : State) (x : Taken) → Ran n t → Room n t → choice n ≡ chosen x → Way n
+    placed : (t : State) (x : Taken) → Ran n t → Room n t → choice n ≡ Chosen x → Way n
     full : (t : State) → Ran n t → Full n t → Way n
-    spent : (t : State) → Ran n t → Room n t → choice n ≡ none → Way n
+    spent : (t : State) → Ran n t → Room n t → choice n ≡ None → Way n
     stopped-before : (number b : ℕ) → run B len why choice n ≡ refused number b → Way n
 
   way : (n : ℕ) → Way n
   way n = go (run B len why choice n) refl
     where
       choose : (t : State) → Ran n t → Room n t → (c : Choice) → choice n ≡ c → Way n
-      choose t e h none q = spent t e h q
-      choose t e h (chosen x) q = placed t x e h q
+      choose t e h None q = spent t e h q
+      choose t e h (Chosen x) q = placed t x e h q
 
       fit : (t : State) → Ran n t → (x : Bool) → leb (place B n t + B .size n) len ≡ x → Way n
       fit t e true h = choose t e (leb-true _ _ h) (choice n) refl
@@ -72,7 +75,7 @@ module _ (B : Blocks) (len why : ℕ) (choice : ℕ → Choice) where
     pub taken : Taken
     pub ran : Ran n before
     pub room : Room n before
-    pub chose : choice n ≡ chosen taken
+    pub chose : choice n ≡ Chosen taken
     pub now : s ≡ next B n before taken
 
   pub last : (n : ℕ) (s : State) → Ran (suc n) s → Last n s
@@ -91,7 +94,7 @@ module _ (B : Blocks) (len why : ℕ) (choice : ℕ → Choice) where
 
   -- no room for block b after `before`, or room and nothing chosen
   abbrev pub Cause : ℕ → ℕ → State → Type 0
-  Cause number b before = ((number ≡ 4) × Full b before) ⊎ ((number ≡ why) × Room b before × (choice b ≡ none))
+  Cause number b before = ((number ≡ 4) × Full b before) ⊎ ((number ≡ why) × Room b before × (choice b ≡ None))
 
   -- the blocks before b were placed, and block b was not
   pub record Stopped (number b : ℕ) : Type 0 where

@@ -12,7 +12,8 @@ use lib.Dec.{T, eqb, eqb→eq}
 use Rattle.bits.specs.Set.{every}
 use Rattle.bits.proofs.Every.{every-at}
 use Rattle.bits.proofs.Least.{least-passes}
-use Rattle.packing.specs.Pack.{Blocks, destructive, clean, Taken, State, free, firstFree, place, hit, next}
+use Rattle.packing.specs.declared.Taken.{Taken}
+use Rattle.packing.specs.Pack.{Blocks, destructive, clean, State, free, firstFree, place, hit, next}
 use Rattle.packing.specs.Promised.{Laws, slotOf}
 use Rattle.packing.proofs.Slots.{Hit, Missed, or-missed, or-hit}
 use Rattle.packing.proofs.Next.{place-le}

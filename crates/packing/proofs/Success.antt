@@ -7,7 +7,10 @@ use native.Mathlib.Nat.{not-suc-le-zero, le-refl, le-of-suc-le-suc, eq-or-lt-of-
 use native.Mathlib.Omega.{arith}
 use Rattle.bits.specs.Shown.{sum}
 use Rattle.bits.proofs.Shown.{sum-within}
-use Rattle.packing.specs.Pack.{Blocks, Taken, Choice, chosen, State, start, place, next, done, refused, run}
+use Rattle.packing.specs.declared.Taken.{Taken}
+use Rattle.packing.specs.declared.Choice.{Choice}
+use Rattle.packing.specs.declared.Choice.the-variants.{Chosen}
+use Rattle.packing.specs.Pack.{Blocks, State, start, place, next, done, refused, run}
 use Rattle.packing.proofs.Next.{place-le, end-old, end-new, end-most, offset-at, offset-before, taken-at, taken-before}
 use Rattle.packing.proofs.Run.{Ran, run-next, Last, last, Stopped, Cause, stopped}
 
@@ -18,13 +21,13 @@ module _ (B : Blocks) (len why : ℕ) (choice : ℕ → Choice) where
   ran-none s e = cc
 
   -- of each block: this was chosen
-  pub chose : (n : ℕ) (s : State) → Ran B len why choice n s → (b : ℕ) → b < n → choice b ≡ chosen (s .taken b)
+  pub chose : (n : ℕ) (s : State) → Ran B len why choice n s → (b : ℕ) → b < n → choice b ≡ Chosen (s .taken b)
   chose zero s e b h = absurd (not-suc-le-zero h)
   chose (suc n) s e b h = let l = last B len why choice n s e in go l (eq-or-lt-of-le (le-of-suc-le-suc h)) (chose n (l .before) (l .ran) b)
     where
-      go : (l : Last B len why choice n s) → (b ≡ n) ⊎ (b < n) → (b < n → choice b ≡ chosen (l .before .taken b)) → choice b ≡ chosen (s .taken b)
-      go l (inl q) ih = ap choice q ∙ l .chose ∙ ap chosen (sym (taken-at B n (l .before) (l .taken) b q)) ∙ ap (λ (t : State). chosen (t .taken b)) (sym (l .now))
-      go l (inr q) ih = ih q ∙ ap chosen (sym (taken-before B n (l .before) (l .taken) b q)) ∙ ap (λ (t : State). chosen (t .taken b)) (sym (l .now))
+      go : (l : Last B len why choice n s) → (b ≡ n) ⊎ (b < n) → (b < n → choice b ≡ Chosen (l .before .taken b)) → choice b ≡ Chosen (s .taken b)
+      go l (inl q) ih = ap choice q ∙ l .chose ∙ ap Chosen (sym (taken-at B n (l .before) (l .taken) b q)) ∙ ap (λ (t : State). Chosen (t .taken b)) (sym (l .now))
+      go l (inr q) ih = ih q ∙ ap Chosen (sym (taken-before B n (l .before) (l .taken) b q)) ∙ ap (λ (t : State). Chosen (t .taken b)) (sym (l .now))
 
   -- ---- the end
 
@@ -77,7 +80,7 @@ module _ (B : Blocks) (why len len′ : ℕ) (choice choice′ : ℕ → Choice)
       ∙ ap done (sym (l .now))
 
   -- two that succeed, and take the same for a block where both take something, leave the same
-  pub same-state : ((b : ℕ) (x x′ : Taken) → choice b ≡ chosen x → choice′ b ≡ chosen x′ → x ≡ x′) → (n : ℕ) (s s′ : State) → Ran B len why choice n s → Ran B len′ why choice′ n s′ → s ≡ s′
+  pub same-state : ((b : ℕ) (x x′ : Taken) → choice b ≡ Chosen x → choice′ b ≡ Chosen x′ → x ≡ x′) → (n : ℕ) (s s′ : State) → Ran B len why choice n s → Ran B len′ why choice′ n s′ → s ≡ s′
   unfolding run
   same-state agree zero s s′ e e′ = cc
   same-state agree (suc n) s s′ e e′ =

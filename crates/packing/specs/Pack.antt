@@ -4,6 +4,9 @@ use mathlib.Core.Bool.{Bool, true, false, cond, not, _&&_}
 use lib.Bits.{bitAnd, bitOr}
 use lib.Dec.{leb, ltb, eqb}
 use Rattle.bits.specs.Set.{pick, every, least}
+use Rattle.packing.specs.declared.Taken.{Taken}
+use Rattle.packing.specs.declared.Choice.{Choice}
+use Rattle.packing.specs.declared.Choice.the-variants.{None, Chosen}
 
 -- what a build has to know of each block
 pub record Blocks : Type 0 where
@@ -30,18 +33,9 @@ clean B b m = every (B .size b) (λ i. every (B .size b) (λ j. not (destructive
 unfoldable pub passes : Blocks → ℕ → ℕ → Bool
 passes B b m = not (B .skipped b m) && clean B b m
 
--- what is taken for a block: its multiplier and the attempt count
-pub record Taken : Type 0 where
-  pub multiplier : ℕ
-  pub count : ℕ
-
-pub data Choice : Type 0 where
-  none : Choice
-  chosen : Taken → Choice
-
 abbrev pub chosenIf : Bool → Taken → Choice
-chosenIf true x = chosen x
-chosenIf false x = none
+chosenIf true x = Chosen x
+chosenIf false x = None
 
 -- where, from 0, the first passing candidate stands; the budget if none passes within it. "Every block starts again from
 -- the same seed", so that candidate i is the same for each
@@ -127,8 +121,8 @@ pub data Outcome : Type 0 where
 -- block b, as it fits or not and by what is chosen: "within a block 4 before 5 or 6", of which `why` is the one
 unfoldable pub tried : Blocks → ℕ → ℕ → State → Bool → Choice → Outcome
 tried B why b s false c = refused 4 b
-tried B why b s true none = refused why b
-tried B why b s true (chosen x) = done (next B b s x)
+tried B why b s true None = refused why b
+tried B why b s true (Chosen x) = done (next B b s x)
 
 -- "If place + size exceeds the table, no room." "The first failing block decides."
 unfoldable pub step : Blocks → ℕ → ℕ → (ℕ → Choice) → ℕ → Outcome → Outcome

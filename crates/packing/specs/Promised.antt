@@ -4,7 +4,8 @@ use mathlib.Core.Path.{_≡_}
 use mathlib.Core.Bool.{true, false}
 use lib.Bits.{bitAnd}
 use Rattle.bits.specs.Shown.{sum}
-use Rattle.packing.specs.Pack.{Blocks, clean, passes, Taken, State, start, place, next}
+use Rattle.packing.specs.declared.Taken.{Taken}
+use Rattle.packing.specs.Pack.{Blocks, clean, passes, State, start, place, next}
 
 -- what the theorems on look-ups ask of the blocks: an index is below the size, a walk lies in the rays
 pub record Laws (B : Blocks) : Type 0 where
