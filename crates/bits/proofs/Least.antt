@@ -1,7 +1,7 @@
 -- Laws of `least`, and the least square of a set by its trailing zeros.
 -- Assumes nothing.
 use mathlib.Core.Path.{_≡_, refl, sym, ap, _∙_, subst}
-use mathlib.Core.Bool.{Bool, true, false}
+use mathlib.Core.Bool.{Bool, true, false, true≢false}
 use Prim.Native.Nat.{ℕ, zero, suc, _/_, _%_, _^_, _≤_, _<_, zero-le, suc-le-suc}
 use native.Mathlib.Nat.{not-suc-le-zero, le-of-suc-le-suc, pow-suc}
 use native.Mathlib.Omega.{arith}
@@ -53,6 +53,14 @@ least-before (suc n) p j h = go j (p zero) refl (least-before n (λ j. p (suc j)
     go j true e ih l = absurd (not-suc-le-zero l)
     go zero false e ih l = e
     go (suc j) false e ih l = ih j (le-of-suc-le-suc l)
+
+-- where the test passes nowhere
+pub least-none : (n : ℕ) (p : ℕ → Bool) → ((j : ℕ) → j < n → p j ≡ false) → least n p ≡ n
+least-none n p h = go (decLt (least n p) n)
+  where
+    go : Dec (least n p < n) → least n p ≡ n
+    go (yes l) = absurd (true≢false (sym (least-passes n p l) ∙ h (least n p) l))
+    go (no g) = omega (arith, least-le n p)
 
 -- ---- trailing zeros
 

@@ -7,7 +7,7 @@ use native.Mathlib.Nat.{add-zero, add-suc, zero-lt-suc, le-of-eq, le-of-suc-le-s
 use native.Mathlib.Numerals.{add-one}
 use native.Mathlib.Omega.{arith}
 use lib.ListN.{length, getD, take, set}
-use lib.Seq.{take-all, take-suc-set}
+use lib.Seq.{take-all, take-suc-set, ext-getD}
 use Rattle.bits.specs.Shown.{shown, sum}
 
 pub shown-cong {ℓ} : {A : Type ℓ} (n : ℕ) (f g : ℕ → A) → ((i : ℕ) → i < n → f i ≡ g i) → shown n f ≡ shown n g
@@ -40,11 +40,17 @@ shown-store i v l f e h q =
 pub shown-whole : (n : ℕ) (l : List ℕ) (f : ℕ → ℕ) → length l ≡ n → take n l ≡ shown n f → l ≡ shown n f
 shown-whole n l f e q = sym (take-all n l (le-of-eq e)) ∙ q
 
-pub getD-shown : (n i : ℕ) (f : ℕ → ℕ) (d : ℕ) → i < n → getD (shown n f) i d ≡ f i
+pub getD-shown {ℓ} : {A : Type ℓ} (n i : ℕ) (f : ℕ → A) (d : A) → i < n → getD (shown n f) i d ≡ f i
 unfolding shown
 getD-shown zero i f d h = absurd (not-suc-le-zero h)
 getD-shown (suc n) zero f d h = refl
 getD-shown (suc n) (suc i) f d h = getD-shown n i (λ j. f (suc j)) d (le-of-suc-le-suc h)
+
+-- a list of n is shown by what stands at each place
+pub shown-list {ℓ} : {A : Type ℓ} (n : ℕ) (l : List A) (d : A) (f : ℕ → A) → length l ≡ n → ((i : ℕ) → i < n → getD l i d ≡ f i) → l ≡ shown n f
+shown-list n l d f e h =
+    ext-getD d l (shown n f) (e ∙ sym (length-shown n f))
+    (λ i lt. let low : i < n = omega (arith, e) in h i low ∙ sym (getD-shown n i f d low))
 
 -- ---- sums
 

@@ -1,14 +1,13 @@
 -- The first passing candidate, and that there is none.
 -- Assumes nothing.
 use Prim.Native.Nat.{ℕ, suc, _+_, _≤_, _<_}
-use mathlib.Core.Path.{_≡_, refl, sym, ap, ap₂, _∙_}
-use mathlib.Core.Bool.{Bool, true, false, true≢false}
+use mathlib.Core.Path.{_≡_, sym, ap, ap₂, _∙_}
+use mathlib.Core.Bool.{Bool, true, false}
+use native.Mathlib.Nat.{le-refl}
 use native.Mathlib.Omega.{arith}
-use native.Mathlib.Decide.{decLt}
-use lib.Dec.{ltb}
 use borrow.Author.Tests.{lt-ltb, le-ltb}
 use Rattle.bits.specs.Set.{least}
-use Rattle.bits.proofs.Least.{least-is, least-passes}
+use Rattle.bits.proofs.Least.{least-is, least-none}
 use Rattle.packing.specs.declared.Choice.the-variants.{None, Chosen}
 use Rattle.packing.specs.Pack.{chosenIf, takenAt}
 
@@ -24,8 +23,6 @@ module _ (candidate : ℕ → ℕ) (budget : ℕ) (p : ℕ → Bool) where
   -- none of the budget passes
   pub taken-none : ((j : ℕ) → j < budget → p j ≡ false) → None ≡ takenAt candidate budget (least budget p)
   unfolding takenAt
-  taken-none h = sym (ap (λ (c : Bool). chosenIf c (record { multiplier = candidate (least budget p); count = suc (least budget p) })) (go (decLt (least budget p) budget)))
-    where
-      go : Dec (least budget p < budget) → ltb (least budget p) budget ≡ false
-      go (yes l) = absurd (true≢false (sym (least-passes budget p l) ∙ h (least budget p) l))
-      go (no g) = le-ltb (least budget p) budget (omega (arith, g))
+  taken-none h =
+      ap (λ (c : Bool). chosenIf c (record { multiplier = candidate budget; count = suc budget })) (sym (le-ltb budget budget (le-refl budget)))
+      ∙ ap (takenAt candidate budget) (sym (least-none budget p h))

@@ -1,12 +1,12 @@
 -- What a slot holds after values were ORed into slots, and a function after one value was put.
 -- Assumes nothing.
-use Prim.Native.Nat.{ℕ, zero, suc, _<_}
-use mathlib.Core.Path.{_≡_, refl, sym, ap, _∙_}
+use Prim.Native.Nat.{ℕ, zero, suc, _+_, _<_}
+use mathlib.Core.Path.{_≡_, refl, sym, ap, ap₂, _∙_}
 use mathlib.Core.Bool.{Bool, true, false, cond}
 use mathlib.Core.Logic.{_⊎_, inl, inr}
 use native.Mathlib.Nat.{not-suc-le-zero, le-refl, le-of-suc-le-suc, eq-or-lt-of-le}
 use native.Mathlib.Omega.{arith}
-use native.Mathlib.Decide.{decLt}
+use native.Mathlib.Decide.{decLt, ℕ-discrete}
 use borrow.Author.Tests.{eqb-true, eqb-false, eq-eqb, ne-eqb}
 use lib.Bits.{bitOr, or-self}
 use lib.Dec.{eqb}
@@ -49,6 +49,16 @@ module _ (slot value : ℕ → ℕ) (j old : ℕ) where
   unfolding orInto
   or-missed zero h = refl
   or-missed (suc n) h = pick-false (eqb (slot n) j) _ (orInto slot value n j old) (ne-eqb (slot n) j (h n (omega arith))) ∙ or-missed n (λ i l. h i (omega arith))
+
+  -- counted from p on
+  pub or-shift : (p n : ℕ) → orInto (λ i. p + slot i) value n (p + j) old ≡ orInto slot value n j old
+  unfolding orInto
+  or-shift p zero = refl
+  or-shift p (suc n) = ap₂ (λ (c : Bool) (x : ℕ). pick c (bitOr x (value n)) x) (same (ℕ-discrete (slot n) j)) (or-shift p n)
+    where
+      same : Dec (slot n ≡ j) → eqb (p + slot n) (p + j) ≡ eqb (slot n) j
+      same (yes e) = eq-eqb (p + slot n) (p + j) (ap (λ (x : ℕ). p + x) e) ∙ sym (eq-eqb (slot n) j e)
+      same (no g) = ne-eqb (p + slot n) (p + j) (λ e. g (omega arith)) ∙ sym (ne-eqb (slot n) j g)
 
   -- all that is ORed into slot j is w
   module _ (w : ℕ) where
