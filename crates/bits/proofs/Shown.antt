@@ -6,7 +6,7 @@ use mathlib.Core.List.{List, [], _∷_, _++_, map}
 use native.Mathlib.Nat.{add-zero, add-suc, zero-lt-suc, le-of-eq, le-of-suc-le-suc, not-suc-le-zero}
 use native.Mathlib.Numerals.{add-one}
 use native.Mathlib.Omega.{arith}
-use lib.ListN.{length, getD, take, set}
+use lib.ListN.{length, getD, take, set, replicate}
 use lib.Seq.{take-all, take-suc-set, ext-getD}
 use Rattle.bits.specs.Shown.{shown, sum}
 
@@ -51,6 +51,12 @@ pub shown-list {ℓ} : {A : Type ℓ} (n : ℕ) (l : List A) (d : A) (f : ℕ �
 shown-list n l d f e h =
     ext-getD d l (shown n f) (e ∙ sym (length-shown n f))
     (λ i lt. let low : i < n = omega (arith, e) in h i low ∙ sym (getD-shown n i f d low))
+
+-- a list of one value has it at each place, and past the end where it is the default
+pub getD-same {ℓ} : {A : Type ℓ} (n : ℕ) (a : A) (j : ℕ) → getD (replicate n a) j a ≡ a
+getD-same zero a j = refl
+getD-same (suc n) a zero = refl
+getD-same (suc n) a (suc j) = getD-same n a j
 
 -- ---- sums
 

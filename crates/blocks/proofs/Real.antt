@@ -1,10 +1,11 @@
 -- The board's blocks have what the packing needs of them.
 -- Assumes nothing.
 use Prim.Native.Nat.{ℕ, _+_, _-_, _*_, _/_, _%_, _^_, _≤_, _<_}
-use mathlib.Core.Path.{_≡_, subst}
+use mathlib.Core.Path.{_≡_, refl, subst}
 use native.Mathlib.Nat.{mod-lt}
 use native.Mathlib.Omega.{arith}
 use lib.Pow.{pow-pos, shr-lt}
+use Rattle.bits.specs.Shown.{sum}
 use Rattle.board.specs.Blocks.{kindOf, squareOf, bitsOf, sizeOf, shiftOf}
 use Rattle.board.proofs.Blocks.{kind-lt, square-lt}
 use Rattle.board.proofs.Sizes.{bits-high}
@@ -31,3 +32,8 @@ laws =
       index-lt = λ b m i _ _. index-lt b m _;
       walk-in = λ b i _ _. attack-rays (kindOf b) (squareOf b) (kind-lt b) (square-lt b) _;
     }
+
+-- "All blocks together: .. 107,648."
+pub all-sizes : sum 128 (real .size) ≡ 107648
+unfolding sum sizeOf kindOf squareOf
+all-sizes = refl

@@ -23,6 +23,14 @@ pub put-other : {A : Type 0} (i : ℕ) (v : A) (f : ℕ → A) (j : ℕ) → (i 
 unfolding put
 put-other i v f j h = ap (λ (x : Bool). cond x v (f j)) (ne-eqb i j h)
 
+pub put-map : {A B : Type 0} (g : A → B) (i : ℕ) (v : A) (f : ℕ → A) (j : ℕ) → g (put i v f j) ≡ put i (g v) (λ k. g (f k)) j
+unfolding put
+put-map g i v f j = go (eqb i j)
+  where
+    go : (c : Bool) → g (cond c v (f j)) ≡ cond c (g v) (g (f j))
+    go true = refl
+    go false = refl
+
 -- ---- the slots of i below n
 
 -- slot j is one of them, or none

@@ -1,0 +1,4 @@
+pub mod Loans
+pub mod Turns
+pub mod Sofar
+pub mod Answers
