@@ -1,7 +1,7 @@
 -- The tests of a build's arguments, and that what a build leaves fixes what it handed back.
 -- Assumes nothing.
 use Prim.Native.Nat.{ℕ}
-use mathlib.Core.Path.{_≡_, refl, ap}
+use mathlib.Core.Path.{_≡_, ap}
 use mathlib.Core.Bool.{Bool, true, false}
 use mathlib.Core.List.{List, []}
 use Rattle.gen_magic.specs.Builds.{Left, empty, keptIf}

@@ -1,4 +1,5 @@
 pub mod Loans
 pub mod Turns
 pub mod Sofar
+pub mod Placing
 pub mod Answers

@@ -1,22 +1,18 @@
 -- The build between two blocks, as the code holds it, and its ways on.
 -- Assumes nothing.
-use Prim.Native.Nat.{ℕ, suc, _+_, _≤_, _<_, max}
+use Prim.Native.Nat.{ℕ, _+_, _≤_, _<_}
 use mathlib.Core.Path.{_≡_, refl, sym, ap, ap₂, _∙_, subst, fun-ext}
-use mathlib.Core.List.{List, [], _∷_}
+use mathlib.Core.List.{List}
 use native.Mathlib.Nat.{not-suc-le-zero}
-use native.Mathlib.Numerals.{add-one}
 use native.Mathlib.Omega.{arith}
-use native.Mathlib.Decide.{ℕ-discrete}
-use lib.ListN.{length, getD, set, replicate, length-set, length-replicate}
+use lib.ListN.{length, getD, replicate, length-replicate}
 use Rattle.bits.specs.Shown.{sum}
 use Rattle.bits.proofs.Shown.{getD-same, shown-list, sum-within}
 use Rattle.refusal.specs.declared.Refusal.{Refusal}
 use Rattle.refusal.specs.Paper.{gives, numberOf, valuesOf}
-use Rattle.packing.specs.declared.Taken.{Taken}
-use Rattle.packing.specs.Pack.{State, done, refused, run, seedBuild, lentBuild, put, firstFree, place, hit, next}
+use Rattle.packing.specs.Pack.{State, done, refused, run, seedBuild, lentBuild, firstFree, place}
 use Rattle.packing.specs.Pack as Pack
-use Rattle.packing.proofs.Slots.{put-same, put-other, put-map}
-use Rattle.packing.proofs.Run.{run-next, run-full, run-spent, refusal-stays}
+use Rattle.packing.proofs.Run.{run-full, run-spent, refusal-stays}
 use Rattle.packing.proofs.Success.{end-fits, end-total}
 use Rattle.blocks.specs.Real.{real}
 use Rattle.blocks.proofs.Real.{all-sizes}
@@ -24,10 +20,9 @@ use Rattle.gen_magic.specs.declared.Record.{Record}
 use Rattle.gen_magic.specs.declared.Source.{Source}
 use Rattle.gen_magic.specs.declared.Source.the-variants.{Seed, Lent}
 use Rattle.gen_magic.specs.declared.Outcome.the-variants.{Built}
-use Rattle.gen_magic.specs.Builds.{slots, recordAt, noRecord, Left, leaves, empty, ended}
-use Rattle.gen_magic.specs.Turn.{ored, choiceBy, whyOf, built}
-use Rattle.gen_magic.proofs.Loans.{getD-put}
-use Rattle.gen_magic.proofs.Turns.{Goes, Stops, full, nothing}
+use Rattle.gen_magic.specs.Builds.{slots, recordAt, noRecord, leaves, empty, ended}
+use Rattle.gen_magic.specs.Turn.{choiceBy, whyOf, built}
+use Rattle.gen_magic.proofs.Turns.{Stops, full, nothing}
 
 -- the state that the code's values stand for
 abbrev pub stateOf : List ℕ → List ℕ → List Record → List ℕ → ℕ → State
@@ -61,19 +56,19 @@ pub record Sofar (source : Source) (l : List ℕ) (len b : ℕ) (table marks : L
   pub records-long : length records ≡ 128
   pub counts-long : length counts ≡ 128
 
-module _ (source : Source) (l : List ℕ) (len : ℕ) where
+module _ {source : Source} {l : List ℕ} {len : ℕ} where
   pub sofar-none : {table marks : List ℕ} → table ≡ replicate len 0 → marks ≡ replicate len 0 → Sofar source l len 0 table marks (replicate 128 noRecord) (replicate 128 0) 0
   unfolding run
   sofar-none {table} {marks} et em =
       record {
         ran =
-          λ i. done (record {
-            table = fun-ext (λ j. sym (ap (λ (x : List ℕ). getD x j 0) et ∙ getD-same len 0 j)) i;
-            marks = fun-ext (λ j. sym (ap (λ (x : List ℕ). getD x j 0) em ∙ getD-same len 0 j)) i;
-            end = 0;
-            offset = fun-ext (λ j. sym (ap (λ (r : Record). r .offset) (getD-same 128 noRecord j))) i;
-            taken = fun-ext (λ j. sym (ap₂ (λ (r : Record) (c : ℕ). record { multiplier = r .multiplier; count = c }) (getD-same 128 noRecord j) (getD-same 128 0 j))) i;
-          });
+            λ i. done (record {
+              table = fun-ext (λ j. sym (ap (λ (x : List ℕ). getD x j 0) et ∙ getD-same len 0 j)) i;
+              marks = fun-ext (λ j. sym (ap (λ (x : List ℕ). getD x j 0) em ∙ getD-same len 0 j)) i;
+              end = 0;
+              offset = fun-ext (λ j. sym (ap (λ (r : Record). r .offset) (getD-same 128 noRecord j))) i;
+              taken = fun-ext (λ j. sym (ap₂ (λ (r : Record) (c : ℕ). record { multiplier = r .multiplier; count = c }) (getD-same 128 noRecord j) (getD-same 128 0 j))) i;
+            });
         own = λ j h. absurd (not-suc-le-zero h);
         table-long = ap length et ∙ length-replicate {A = ℕ} len 0;
         marks-long = ap length em ∙ length-replicate {A = ℕ} len 0;
@@ -92,56 +87,6 @@ module _ (source : Source) (l : List ℕ) (len : ℕ) where
         bound : (e s z t : ℕ) → e ≤ s → s + z ≤ t → t ≡ 107648 → e + z ≤ 107648
         bound e s z t p q r = omega arith
 
-    -- ---- the block goes in
-
-    module _ (lt : b < 128) (p : ℕ) (x : Taken) (g : Goes source l b end marks p x) (table′ marks′ : List ℕ) (end′ : ℕ)
-      (et : slots table′ ≡ ored (λ i. p + real .index b (x .multiplier) i) (real .walk b) (real .size b) (slots table))
-      (em : slots marks′ ≡ ored (λ i. p + real .index b (x .multiplier) i) (λ _. real .rays b) (real .size b) (slots marks))
-      (ee : end′ ≡ max end (p + real .size b)) where
-
-      abbrev pub made : Record
-      made = recordAt b (x .multiplier) p
-
-      record-now : (j : ℕ) → getD (set records b made) j noRecord ≡ put b made (λ k. getD records k noRecord) j
-      record-now j = getD-put records b made noRecord j (omega (arith, h .records-long))
-
-      own-now : (j : ℕ) → j < b + 1 → Own j (getD (set records b made) j noRecord)
-      own-now j low = subst (Own j) (sym (record-now j)) (go (ℕ-discrete b j))
-        where
-          go : Dec (b ≡ j) → Own j (put b made (λ k. getD records k noRecord) j)
-          go (yes e) = subst (λ (k : ℕ). Own k (put b made (λ k. getD records k noRecord) k)) e (subst (Own b) (sym (put-same b made (λ k. getD records k noRecord))) refl)
-          go (no f) = subst (Own j) (sym (put-other b made (λ k. getD records k noRecord) j f)) (h .own j (omega (arith, f)))
-
-      state-now : next real b (stateOf table marks records counts end) x ≡ stateOf table′ marks′ (set records b made) (set counts b (x .count)) end′
-      unfolding next hit place
-      state-now =
-          λ i. record {
-            table = sym (et ∙ ap (λ (q : ℕ). ored (λ k. q + real .index b (x .multiplier) k) (real .walk b) (real .size b) (slots table)) (g .place-is)) i;
-            marks = sym (em ∙ ap (λ (q : ℕ). ored (λ k. q + real .index b (x .multiplier) k) (λ _. real .rays b) (real .size b) (slots marks)) (g .place-is)) i;
-            end = sym (ee ∙ ap (λ (q : ℕ). max end (q + real .size b)) (g .place-is)) i;
-            offset = fun-ext (λ j. sym (ap (λ (r : Record). r .offset) (record-now j) ∙ put-map (λ (r : Record). r .offset) b made (λ k. getD records k noRecord) j ∙ ap (λ (q : ℕ). put b q (λ k. getD records k noRecord .offset) j) (g .place-is))) i;
-            taken = fun-ext (λ j. sym (ap₂ (λ (m c : ℕ). record { multiplier = m; count = c })
-              (ap (λ (r : Record). r .multiplier) (record-now j) ∙ put-map (λ (r : Record). r .multiplier) b made (λ k. getD records k noRecord) j ∙ sym (put-map (λ (t : Taken). t .multiplier) b x (stateOf table marks records counts end .taken) j))
-              (getD-put counts b (x .count) 0 j (omega (arith, h .counts-long)) ∙ sym (put-map (λ (t : Taken). t .count) b x (stateOf table marks records counts end .taken) j)))) i;
-          }
-
-      pub sofar-more : length table′ ≡ length table → length marks′ ≡ length marks → Sofar source l len (b + 1) table′ marks′ (set records b made) (set counts b (x .count)) end′
-      unfolding place
-      sofar-more lt′ lm′ =
-          record {
-            ran =
-              ap (runTo source l len) (add-one b)
-              ∙ run-next real len (numberOf (whyOf source 0)) (choiceBy source l) b _ x (h .ran) room (g .chose) ∙ ap done state-now;
-            own = own-now;
-            table-long = lt′ ∙ h .table-long;
-            marks-long = lm′ ∙ h .marks-long;
-            records-long = length-set records b made ∙ h .records-long;
-            counts-long = length-set {A = ℕ} counts b (x .count) ∙ h .counts-long;
-          }
-        where
-          room : place real b (stateOf table marks records counts end) + real .size b ≤ len
-          room = subst (λ (n : ℕ). firstFree (real .size b) (real .rays b) (slots marks) end + real .size b ≤ n) (h .marks-long) (g .room)
-
     -- ---- the block is refused
 
     pub ended-refused : b < 128 → (r : Refusal) → Stops source l b end marks r → ended len (built source l len) ≡ empty (numberOf r) (valuesOf r) (replicate len 0) (replicate len 0)
@@ -159,15 +104,15 @@ module _ (source : Source) (l : List ℕ) (len : ℕ) where
 
   -- ---- all blocks went in
 
-  pub ended-done : {table marks : List ℕ} {records : List Record} {counts : List ℕ} {end : ℕ} → Sofar source l len 128 table marks records counts end → leaves (record { outcome = Built; records = records; counts = counts; used = end }) table marks ≡ ended len (built source l len)
-  ended-done {table} {marks} {records} {counts} {end} h =
-      shown-all ∙ sym (ap (ended len) (built-is source l len ∙ h .ran))
+  pub ended-done : {b : ℕ} {table marks : List ℕ} {records : List Record} {counts : List ℕ} {end : ℕ} → b ≡ 128 → Sofar source l len b table marks records counts end → leaves (record { outcome = Built; records = records; counts = counts; used = end }) table marks ≡ ended len (built source l len)
+  ended-done {b} {table} {marks} {records} {counts} {end} e h =
+      shown-all ∙ sym (ap (ended len) (built-is source l len ∙ ap (runTo source l len) (sym e) ∙ h .ran))
     where
       shown-all : leaves (record { outcome = Built; records = records; counts = counts; used = end }) table marks ≡ ended len (done (stateOf table marks records counts end))
       shown-all =
           λ i. record {
             says = gives tt;
-            records = shown-list 128 records noRecord (λ b. recordAt b (getD records b noRecord .multiplier) (getD records b noRecord .offset)) (h .records-long) (h .own) i;
+            records = shown-list 128 records noRecord (λ b. recordAt b (getD records b noRecord .multiplier) (getD records b noRecord .offset)) (h .records-long) (λ j low. h .own j (omega (arith, e))) i;
             counts = shown-list 128 counts 0 (slots counts) (h .counts-long) (λ _ _. refl) i;
             used = end;
             table = shown-list len table 0 (slots table) (h .table-long) (λ _ _. refl) i;

@@ -1,7 +1,7 @@
 -- A block's turn: from what the code found to `turn`, and from `turn` to what stands behind it.
 -- Assumes nothing.
 use Prim.Native.Nat.{ℕ, _+_, _≤_, _<_}
-use mathlib.Core.Path.{_≡_, refl, sym, ap, ap₂, _∙_, subst}
+use mathlib.Core.Path.{_≡_, refl, sym, ap, ap₂, _∙_}
 use mathlib.Core.Bool.{Bool, true, false}
 use mathlib.Core.List.{List}
 use native.Mathlib.Omega.{arith}
@@ -17,7 +17,6 @@ use Rattle.packing.specs.declared.Choice.the-variants.{None, Chosen}
 use Rattle.packing.specs.Pack.{free, firstFree}
 use Rattle.blocks.specs.Real.{real}
 use Rattle.gen_magic.specs.declared.Source.{Source}
-use Rattle.gen_magic.specs.declared.Settled.{Settled}
 use Rattle.gen_magic.specs.declared.Settled.the-variants.{At, Refused}
 use Rattle.gen_magic.specs.Builds.{slots}
 use Rattle.gen_magic.specs.Turn.{choiceBy, whyOf, turnBy, turn}

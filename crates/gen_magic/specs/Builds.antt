@@ -10,7 +10,7 @@ use Rattle.board.specs.Board.{mask}
 use Rattle.board.specs.Blocks.{kindOf, squareOf, shiftOf}
 use Rattle.splitmix.specs.SplitMix.{candidate}
 use Rattle.packing.specs.Pack as Pack
-use Rattle.packing.specs.Pack.{State, seedBuild, lentBuild}
+use Rattle.packing.specs.Pack.{seedBuild, lentBuild}
 use Rattle.blocks.specs.Real.{real}
 use Rattle.gen_magic.specs.declared.Record.{Record}
 use Rattle.gen_magic.specs.declared.Outcome.{Outcome}

@@ -13,7 +13,8 @@ ghost use Prim.Native.Nat.{ℕ, _+_, _^_, _≤_, _<_, max};
 ghost use lib.ListN.{getD, length, replicate};
 ghost use Rattle.packing.specs.Pack.{free, firstFree};
 ghost use Rattle.blocks.specs.Real.{real};
-ghost use Rattle.gen_magic.specs.Builds.{slots, noRecord, recordAt, leaves, ended, fromSeed, fromLent};
+ghost use Rattle.gen_magic.specs.Builds.{slots, noRecord, recordAt, leaves, empty, ended, fromSeed, fromLent};
+ghost use Rattle.refusal.specs.Paper.{numberOf, valuesOf};
 ghost use Rattle.gen_magic.specs.Turn.{ored, choiceBy, whyOf, turn, built};
 
 // ---- what a build hands back
@@ -116,7 +117,12 @@ fn write(block: usize, multiplier: u64, place: usize, table: &mut [u64], marks: 
     ensures { λ r. ⌜ slots (now (marks .exit)) ≡ ored (λ (i : ℕ). place + real .index block multiplier i) (λ (i : ℕ). real .rays block) (real .size block) (slots (now (marks .entry))) ⌝ }
 {
     let end = place + magic_helpers::size_at(block);
-    or_block(block, multiplier, &mut table[place..end], &mut marks[place..end]);
+    or_block(
+        block,
+        multiplier,
+        &mut table[place..end],
+        &mut marks[place..end],
+    );
 }
 
 // All slots 0.
@@ -214,13 +220,20 @@ fn nothing(refusal: Refusal) -> Build
     }
 }
 
-// Blocks 0 to 127, in order.
-fn gen_blocks(source: Source, multipliers: &[u64], table: &mut [u64], marks: &mut [u64]) -> Build
-    requires { ⌜ length (now marks) ≡ length (now table) ⌝ }
-    ensures { λ r. ⌜ leaves r (now (table .exit)) (now (marks .exit)) ≡ ended (length (now (table .entry))) (built source (now (multipliers .entry)) (length (now (table .entry)))) ⌝ }
+// A build refused on the way leaves table, marks and records all zero.
+fn stop(refusal: Refusal, table: &mut [u64], marks: &mut [u64]) -> Build
+    ensures { λ r. ⌜ leaves r (now (table .exit)) (now (marks .exit)) ≡ empty (numberOf refusal) (valuesOf refusal) (replicate (length (now (table .entry))) 0) (replicate (length (now (marks .entry))) 0) ⌝ }
 {
     clear(table);
     clear(marks);
+    nothing(refusal)
+}
+
+// Blocks 0 to 127, in order, into slots that are all 0.
+fn gen_blocks(source: Source, multipliers: &[u64], table: &mut [u64], marks: &mut [u64]) -> Build
+    requires { ⌜ (length (now marks) ≡ length (now table)) × (now table ≡ replicate (length (now table)) 0) × (now marks ≡ replicate (length (now table)) 0) ⌝ }
+    ensures { λ r. ⌜ leaves r (now (table .exit)) (now (marks .exit)) ≡ ended (length (now (table .entry))) (built source (now (multipliers .entry)) (length (now (table .entry)))) ⌝ }
+{
     let none = Record {
         multiplier: 0,
         mask: 0,
@@ -240,11 +253,7 @@ fn gen_blocks(source: Source, multipliers: &[u64], table: &mut [u64], marks: &mu
                 end = larger(end, place + magic_helpers::size_at(block));
                 block += 1;
             }
-            Settled::Refused(refusal) => {
-                clear(table);
-                clear(marks);
-                return nothing(refusal);
-            }
+            Settled::Refused(refusal) => return stop(refusal, table, marks),
         }
     }
     Build {
@@ -253,6 +262,16 @@ fn gen_blocks(source: Source, multipliers: &[u64], table: &mut [u64], marks: &mu
         counts,
         used: end,
     }
+}
+
+// Whatever the memory held, before block 0 all table and mark slots are 0.
+fn gen_from(source: Source, multipliers: &[u64], table: &mut [u64], marks: &mut [u64]) -> Build
+    requires { ⌜ length (now marks) ≡ length (now table) ⌝ }
+    ensures { λ r. ⌜ leaves r (now (table .exit)) (now (marks .exit)) ≡ ended (length (now (table .entry))) (built source (now (multipliers .entry)) (length (now (table .entry)))) ⌝ }
+{
+    clear(table);
+    clear(marks);
+    gen_blocks(source, multipliers, table, marks)
 }
 
 // The build from a seed: 10, then 3.
@@ -266,7 +285,7 @@ pub fn gen_all_magic(seed: u64, budget: u64, table: &mut [u64], marks: &mut [u64
         return nothing(Refusal::LengthsDiffer);
     }
     let unused = [0u64; 128];
-    gen_blocks(Source::Seed { seed, budget }, &unused, table, marks)
+    gen_from(Source::Seed { seed, budget }, &unused, table, marks)
 }
 
 // The build from lent multipliers, in block order: 9, then 3.
@@ -279,5 +298,5 @@ pub fn gen_all_lent(multipliers: &[u64], table: &mut [u64], marks: &mut [u64]) -
     if table.len() != marks.len() {
         return nothing(Refusal::LengthsDiffer);
     }
-    gen_blocks(Source::Lent, multipliers, table, marks)
+    gen_from(Source::Lent, multipliers, table, marks)
 }

@@ -32,8 +32,8 @@ returns-2 c = let a = c .before .before .before .before .before .before .args in
     ∙ sym (passed 9 (a .table .now) (a .marks .now) (ofOneLength (a .table .now) (a .marks .now) (ended (length (a .table .now)) (lentBuild real (slots (a .multipliers .now)) (length (a .table .now))))) (not (eqb (length (a .multipliers .now)) 128)) (ap not (eq-eqb (length (a .multipliers .now)) 128 (c .before .before .if1 .left)))
     ∙ kept 3 (a .table .now) (a .marks .now) (ended (length (a .table .now)) (lentBuild real (slots (a .multipliers .now)) (length (a .table .now)))) (not (eqb (length (a .table .now)) (length (a .marks .now)))) (ap not (ne-eqb (length (a .table .now)) (length (a .marks .now)) (c .before .if2 .taken))))
 
-gen-blocks-requires : tie.Need-gen-blocks-requires
-gen-blocks-requires c κs = search needs
+gen-from-requires : tie.Need-gen-from-requires
+gen-from-requires c κs = search needs
 
 same-length : tie.Need-same-length
 same-length c = search needs
@@ -44,7 +44,7 @@ same-length-2 c = search needs
 returns-3 : tie.Need-returns-3
 unfolding fromLent
 returns-3 c = let a = c .before .before .before .before .before .before .before .before .before .before .before .before .args in
-    c .before .before .before .before .gen-blocks .ensures
+    c .before .before .before .before .gen-from .ensures
     ∙ sym (passed 9 (a .table .now) (a .marks .now) (ofOneLength (a .table .now) (a .marks .now) (ended (length (a .table .now)) (lentBuild real (slots (a .multipliers .now)) (length (a .table .now))))) (not (eqb (length (a .multipliers .now)) 128)) (ap not (eq-eqb (length (a .multipliers .now)) 128 (c .before .before .before .before .before .before .before .before .if1 .left)))
     ∙ passed 3 (a .table .now) (a .marks .now) (ended (length (a .table .now)) (lentBuild real (slots (a .multipliers .now)) (length (a .table .now)))) (not (eqb (length (a .table .now)) (length (a .marks .now)))) (ap not (eq-eqb (length (a .table .now)) (length (a .marks .now)) (c .before .before .before .before .before .before .before .if2 .left))))
 
@@ -56,7 +56,7 @@ gen-all-lent-spec =
     returns
     nothing-requires-2
     returns-2
-    gen-blocks-requires
+    gen-from-requires
     same-length
     same-length-2
     returns-3)

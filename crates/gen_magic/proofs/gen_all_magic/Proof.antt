@@ -33,11 +33,11 @@ returns-2 c = let a = c .before .before .before .before .before .args in
     ∙ sym (passed 10 (a .table .now) (a .marks .now) (ofOneLength (a .table .now) (a .marks .now) (ended (length (a .table .now)) (seedBuild real (candidate (a .seed)) (a .budget) (length (a .table .now))))) (ltb 16777216 (a .budget)) (le-ltb 16777216 (a .budget) (c .before .before .if1 .left))
     ∙ kept 3 (a .table .now) (a .marks .now) (ended (length (a .table .now)) (seedBuild real (candidate (a .seed)) (a .budget) (length (a .table .now)))) (not (eqb (length (a .table .now)) (length (a .marks .now)))) (ap not (ne-eqb (length (a .table .now)) (length (a .marks .now)) (c .before .if2 .taken))))
 
-slice-aggregate-gen-blocks : tie.Need-slice-aggregate-gen-blocks
-slice-aggregate-gen-blocks c = search needs
+slice-aggregate-gen-from : tie.Need-slice-aggregate-gen-from
+slice-aggregate-gen-from c = search needs
 
-gen-blocks-requires : tie.Need-gen-blocks-requires
-gen-blocks-requires c κs = search needs
+gen-from-requires : tie.Need-gen-from-requires
+gen-from-requires c κs = search needs
 
 same-length : tie.Need-same-length
 same-length c = search needs
@@ -48,7 +48,7 @@ same-length-2 c = search needs
 returns-3 : tie.Need-returns-3
 unfolding fromSeed
 returns-3 c = let a = c .before .before .before .before .before .before .before .before .before .before .before .before .args in
-    c .before .before .before .before .gen-blocks .ensures
+    c .before .before .before .before .gen-from .ensures
     ∙ sym (passed 10 (a .table .now) (a .marks .now) (ofOneLength (a .table .now) (a .marks .now) (ended (length (a .table .now)) (seedBuild real (candidate (a .seed)) (a .budget) (length (a .table .now))))) (ltb 16777216 (a .budget)) (le-ltb 16777216 (a .budget) (c .before .before .before .before .before .before .before .before .before .if1 .left))
     ∙ passed 3 (a .table .now) (a .marks .now) (ended (length (a .table .now)) (seedBuild real (candidate (a .seed)) (a .budget) (length (a .table .now)))) (not (eqb (length (a .table .now)) (length (a .marks .now)))) (ap not (eq-eqb (length (a .table .now)) (length (a .marks .now)) (c .before .before .before .before .before .before .before .before .if2 .left))))
 
@@ -60,8 +60,8 @@ gen-all-magic-spec =
     returns
     nothing-requires-2
     returns-2
-    slice-aggregate-gen-blocks
-    gen-blocks-requires
+    slice-aggregate-gen-from
+    gen-from-requires
     same-length
     same-length-2
     returns-3)

@@ -1,19 +1,16 @@
 -- `gen_magic::gen_blocks` meets its contract: before each turn the code's values stand for the run's state.
-use borrow.Author.Needs.{needs}
 use Prim.Native.Nat.{ℕ, _+_, _-_, _^_, _≤_, _<_, max, zero-le}
-use mathlib.Core.Path.{_≡_, sym, ap, ap₂, _∙_, subst}
-use mathlib.Core.List.{List}
+use mathlib.Core.Path.{sym, ap, ap₂, _∙_, subst}
 use native.Mathlib.Nat.{le-trans, le-add-right}
 use native.Mathlib.Omega.{arith}
-use lib.ListN.{length, replicate, set}
+use borrow.Author.Needs.{needs}
+use lib.ListN.{length, replicate}
 use Rattle.refusal.specs.Paper.{numberOf, valuesOf}
 use Rattle.blocks.specs.Real.{real}
-use Rattle.gen_magic.specs.declared.Record.{Record}
-use Rattle.gen_magic.specs.declared.Build.{Build}
-use Rattle.gen_magic.specs.Builds.{slots, leaves, empty, ended}
-use Rattle.gen_magic.specs.Turn.{built}
+use Rattle.gen_magic.specs.Builds.{slots, empty}
 use Rattle.gen_magic.proofs.Turns.{first-low, Goes, goes, stops}
-use Rattle.gen_magic.proofs.Sofar.{Sofar, sofar-none, end-in, end-small, sofar-more, ended-refused, ended-done}
+use Rattle.gen_magic.proofs.Sofar.{Sofar, sofar-none, end-in, end-small, ended-refused, ended-done}
+use Rattle.gen_magic.proofs.Placing.{sofar-more}
 use Rattle.gen_magic.proofs.gen_blocks.Statement.{statement}
 use Rattle.gen_magic.proofs.gen_blocks.Tie as tie
 
@@ -23,32 +20,20 @@ Inv-loop source multipliers table₀ marks₀ records₀ counts₀ end₀ block�
 abbrev μ-loop : tie.MeasureT-loop
 μ-loop source multipliers table₀ marks₀ records₀ counts₀ end₀ block₀ table marks records counts end block = 128 - block
 
-clear-requires : tie.Need-clear-requires Inv-loop μ-loop
-clear-requires c κs = search needs
-
-clear-requires-2 : tie.Need-clear-requires-2 Inv-loop μ-loop
-clear-requires-2 c κs = search needs
-
 loop-holds : tie.Need-loop-holds Inv-loop μ-loop
-loop-holds c = 
-    let a = c .before .before .before .before .before .before .before .before .before .before .before in
-    let k = c .before .before .before .before .before .before .clear in
-    (zero-le, sofar-none (a .args .source) (a .args .multipliers .now) (length (k .last .0)) (k .ensures ∙ ap (λ (n : ℕ). replicate n 0) (sym (k .kept .0))) (c .before .before .clear2 .ensures ∙ ap (λ (n : ℕ). replicate n 0) (a .pre ∙ sym (k .kept .0))))
+loop-holds c = (zero-le, sofar-none (c .before .before .before .pre .1) (c .before .before .before .pre .2))
 
 settle-requires : tie.Need-settle-requires Inv-loop μ-loop
-settle-requires c κs = 
+settle-requires c κs =
     let l = c .before .before .loop in
-    let a = c .before .before .before .before .before .before .before .before .before .before .before .before .before .before .args in
-    let z = c .before .before .before .before .before .before .before .before .before .clear .last .0 in
-    (le-trans (le-add-right (l .end) (real .size (l .block))) (end-small (a .source) (a .multipliers .now) (length z) (l .inv .1) (c .before .loop-test .taken)),
-     end-in (a .source) (a .multipliers .now) (length z) (l .inv .1))
+    (le-trans (le-add-right (l .end) (real .size (l .block))) (end-small (l .inv .1) (c .before .loop-test .taken)), end-in (l .inv .1))
 
 enum-known-place : tie.Need-enum-known-place Inv-loop μ-loop
 enum-known-place c = search needs
 
 -- the block's place, and that it ends within the loans and 107,648
 module _ (d : tie.After-place Inv-loop μ-loop) where
-  gone : Goes (d .before .before .before .before .before .before .before .before .before .before .before .before .before .before .before .before .before .args .source) (d .before .before .before .before .before .before .before .before .before .before .before .before .before .before .before .before .before .args .multipliers .now) (d .before .before .before .before .before .loop .block) (d .before .before .before .before .before .loop .end) (d .before .before .before .before .before .loop .marks) (d .place .given .0 .0) (d .place .given .0 .1 .0)
+  gone : Goes (d .before .before .before .before .before .before .before .before .before .args .source) (d .before .before .before .before .before .before .before .before .before .args .multipliers .now) (d .before .before .before .before .before .loop .block) (d .before .before .before .before .before .loop .end) (d .before .before .before .before .before .loop .marks) (d .place .given .0 .0) (d .place .given .0 .1 .0)
   gone = goes _ _ _ _ _ _ _ (sym (d .place .given .1) ∙ d .before .before .settle .ensures)
 
   room : d .place .given .0 .0 + real .size (d .before .before .before .before .before .loop .block) ≤ length (d .before .before .before .before .before .loop .marks)
@@ -57,11 +42,7 @@ module _ (d : tie.After-place Inv-loop μ-loop) where
   place-small : d .place .given .0 .0 + real .size (d .before .before .before .before .before .loop .block) ≤ 107648
   place-small =
       let l = d .before .before .before .before .before .loop in
-      let a = d .before .before .before .before .before .before .before .before .before .before .before .before .before .before .before .before .before .args in
-      let z = d .before .before .before .before .before .before .before .before .before .before .before .before .clear .last .0 in
-    let z = d .before .before .before .before .before .before .before .before .before .before .before .before .clear .last .0 in
-      below (d .place .given .0 .0) (l .end) (real .size (l .block)) (subst (λ (p : ℕ). p ≤ l .end) (sym (gone .place-is)) (first-low _ _ (slots (l .marks)) (l .end)))
-      (end-small (a .source) (a .multipliers .now) (length z) (l .inv .1) (d .before .before .before .before .loop-test .taken))
+      below (d .place .given .0 .0) (l .end) (real .size (l .block)) (subst (λ (p : ℕ). p ≤ l .end) (sym (gone .place-is)) (first-low _ _ (slots (l .marks)) (l .end))) (end-small (l .inv .1) (d .before .before .before .before .loop-test .taken))
     where
       below : (p e z : ℕ) → p ≤ e → e + z ≤ 107648 → p + z ≤ 107648
       below p e z h g = omega arith
@@ -70,13 +51,13 @@ small : (p z : ℕ) → p + z ≤ 107648 → p < 2 ^ 32
 small p z h = omega arith
 
 write-requires : tie.Need-write-requires Inv-loop μ-loop
-write-requires c κs = 
+write-requires c κs =
     let d = c .before .before .before in
     let h = d .before .before .before .before .before .loop .inv .1 in
     (subst (λ (n : ℕ). d .place .given .0 .0 + real .size (d .before .before .before .before .before .loop .block) ≤ n) (h .marks-long ∙ sym (h .table-long)) (room d), h .marks-long ∙ sym (h .table-long))
 
 record-of-requires : tie.Need-record-of-requires Inv-loop μ-loop
-record-of-requires c κs = let h = place-small (c .before .before .before .before .before .before .before .before) in small _ _ h
+record-of-requires c κs = small _ _ (place-small (c .before .before .before .before .before .before .before .before))
 
 mul-records : tie.Need-mul-records Inv-loop μ-loop
 mul-records c = search needs
@@ -106,29 +87,21 @@ loop-less : tie.Need-loop-less Inv-loop μ-loop
 loop-less c = search needs
 
 loop-again : tie.Need-loop-again Inv-loop μ-loop
-loop-again c = 
+loop-again c =
     let d = c .before .before .before .before .before .before .before .before .before .before .before in
     let l = d .before .before .before .before .before .loop in
-    let a = d .before .before .before .before .before .before .before .before .before .before .before .before .before .before .before .before .before .args in
-    let z = d .before .before .before .before .before .before .before .before .before .before .before .before .clear .last .0 in
     let w = c .before .before .before .before .before .before .before .write in
-    let x = d .place .given .0 .1 .0 in
-    (omega arith,
-     subst (λ (r : Record). Sofar (a .source) (a .multipliers .now) (length z) (l .block + 1) (w .last .1 .1 .1 .0) (w .last .1 .1 .1 .1 .0) (set (l .records) (l .block) r) (set (l .counts) (l .block) (x .count)) (c .larger .result)) (sym (c .before .before .record-of .ensures))
-     (sofar-more (a .source) (a .multipliers .now) (length z) (l .inv .1) (d .before .before .before .before .loop-test .taken) (d .place .given .0 .0) x (gone d) (w .last .1 .1 .1 .0) (w .last .1 .1 .1 .1 .0) (c .larger .result) (w .ensures .0) (w .ensures .1)
-      (c .larger .ensures ∙ ap (λ (z : ℕ). max (l .end) (d .place .given .0 .0 + z)) (c .before .size-at .ensures)) (w .kept .1 .1 .1 .0) (w .kept .1 .1 .1 .1 .0)))
+    let x = d .place .given .0 .1 .0 in (
+      omega arith,
+      sofar-more (l .inv .1) (d .before .before .before .before .loop-test .taken) (d .place .given .0 .0) x (gone d) (w .last .1 .1 .1 .0) (w .last .1 .1 .1 .1 .0) (c .before .before .record-of .result) (c .larger .result) (w .ensures .0) (w .ensures .1) (c .before .before .record-of .ensures)
+          (c .larger .ensures ∙ ap (λ (z : ℕ). max (l .end) (d .place .given .0 .0 + z)) (c .before .size-at .ensures)) (w .kept .1 .1 .1 .0) (w .kept .1 .1 .1 .1 .0),
+    )
 
 enum-known-refusal : tie.Need-enum-known-refusal Inv-loop μ-loop
 enum-known-refusal c = search needs
 
-clear-requires-3 : tie.Need-clear-requires-3 Inv-loop μ-loop
-clear-requires-3 c κs = search needs
-
-clear-requires-4 : tie.Need-clear-requires-4 Inv-loop μ-loop
-clear-requires-4 c κs = search needs
-
-nothing-requires : tie.Need-nothing-requires Inv-loop μ-loop
-nothing-requires c κs = search needs
+stop-requires : tie.Need-stop-requires Inv-loop μ-loop
+stop-requires c κs = search needs
 
 same-length : tie.Need-same-length Inv-loop μ-loop
 same-length c = search needs
@@ -137,17 +110,13 @@ same-length-2 : tie.Need-same-length-2 Inv-loop μ-loop
 same-length-2 c = search needs
 
 returns : tie.Need-returns Inv-loop μ-loop
-returns c = 
-    let d = c .before .before .before .before .before .before .before .before .before .before in
+returns c =
+    let d = c .before .before .before .before .before .before .before .before in
     let l = d .before .before .before .before .before .loop in
-    let a = d .before .before .before .before .before .before .before .before .before .before .before .before .before .before .before .before .before .args in
-    let z = d .before .before .before .before .before .before .before .before .before .before .before .before .clear .last .0 in
     let r = d .refusal .given .0 .0 in
-    let s = stops (a .source) (a .multipliers .now) (l .block) (l .end) (l .marks) r (sym (d .refusal .given .1) ∙ d .before .before .settle .ensures) in
-    ap (λ (b : Build). leaves b (c .before .before .before .before .before .before .before .clear3 .last .0) (c .before .before .before .clear4 .last .0)) (c .nothing .ensures)
-    ∙ ap₂ (λ (t m : List ℕ). empty (numberOf r) (valuesOf r) t m) (c .before .before .before .before .before .before .before .clear3 .ensures ∙ ap (λ (n : ℕ). replicate n 0) (l .inv .1 .table-long)) (c .before .before .before .clear4 .ensures ∙ ap (λ (n : ℕ). replicate n 0) (l .inv .1 .marks-long))
-    ∙ sym (ended-refused (a .source) (a .multipliers .now) (length z) (l .inv .1) (d .before .before .before .before .loop-test .taken) r s)
-    ∙ ap (λ (n : ℕ). ended n (built (a .source) (a .multipliers .now) n)) (d .before .before .before .before .before .before .before .before .before .before .before .before .clear .kept .0)
+    c .before .before .before .before .stop .ensures
+    ∙ ap₂ (λ (m n : ℕ). empty (numberOf r) (valuesOf r) (replicate m 0) (replicate n 0)) (l .inv .1 .table-long) (l .inv .1 .marks-long)
+    ∙ sym (ended-refused (l .inv .1) (d .before .before .before .before .loop-test .taken) r (stops _ _ _ _ _ r (sym (d .refusal .given .1) ∙ d .before .before .settle .ensures)))
 
 same-length-3 : tie.Need-same-length-3 Inv-loop μ-loop
 same-length-3 c = search needs
@@ -156,14 +125,7 @@ same-length-4 : tie.Need-same-length-4 Inv-loop μ-loop
 same-length-4 c = search needs
 
 returns-2 : tie.Need-returns-2 Inv-loop μ-loop
-returns-2 c = 
-    let l = c .before .loop in
-    let a = c .before .before .before .before .before .before .before .before .before .before .before .before .before .args in
-    let k = c .before .before .before .before .before .before .before .before .clear in
-    let z = k .last .0 in
-    let e : l .block ≡ 128 = omega arith in
-    ended-done (a .source) (a .multipliers .now) (length z) (subst (λ (n : ℕ). Sofar (a .source) (a .multipliers .now) (length z) n (l .table) (l .marks) (l .records) (l .counts) (l .end)) e (l .inv .1))
-    ∙ ap (λ (n : ℕ). ended n (built (a .source) (a .multipliers .now) n)) (k .kept .0)
+returns-2 c = ended-done (omega arith) (c .before .loop .inv .1)
 
 pub gen-blocks-spec : {M : Type 1} → statement M
 gen-blocks-spec =
@@ -171,8 +133,6 @@ gen-blocks-spec =
     (tie.spec
     Inv-loop
     μ-loop
-    clear-requires
-    clear-requires-2
     loop-holds
     settle-requires
     enum-known-place
@@ -189,9 +149,7 @@ gen-blocks-spec =
     loop-less
     loop-again
     enum-known-refusal
-    clear-requires-3
-    clear-requires-4
-    nothing-requires
+    stop-requires
     same-length
     same-length-2
     returns

@@ -104,7 +104,7 @@ loop-less : tie.Need-loop-less Inv-loop μ-loop
 loop-less c = search needs
 
 loop-again : tie.Need-loop-again Inv-loop μ-loop
-loop-again c = 
+loop-again c =
     let a = c .before .before in
     let l = a .before .before .before .before .before .loop in
     let s = a .before .before .before .before .before .before .before .before .before .before .before .args in
@@ -123,12 +123,13 @@ same-length-2 : tie.Need-same-length-2 Inv-loop μ-loop
 same-length-2 c = search needs
 
 returns : tie.Need-returns Inv-loop μ-loop
-returns c = 
+returns c =
     let l = c .before .loop in
     let s = c .before .before .before .before .before .before .before .args in
-    let e : l .i ≡ real .size (s .block) = le-antisymm (subst (λ (n : ℕ). l .i ≤ n) (c .before .before .before .before .size-at .ensures) (l .inv .0)) (subst (λ (n : ℕ). n ≤ l .i) (c .before .before .before .before .size-at .ensures) (c .loop-test .left)) in
-    (l .inv .3 ∙ ap (λ (n : ℕ). ored (real .index (s .block) (s .multiplier)) (real .walk (s .block)) n (slots (s .table .now))) e,
-     l .inv .4 ∙ ap (λ (n : ℕ). ored (real .index (s .block) (s .multiplier)) (λ _. real .rays (s .block)) n (slots (s .marks .now))) e)
+    let e : l .i ≡ real .size (s .block) = le-antisymm (subst (λ (n : ℕ). l .i ≤ n) (c .before .before .before .before .size-at .ensures) (l .inv .0)) (subst (λ (n : ℕ). n ≤ l .i) (c .before .before .before .before .size-at .ensures) (c .loop-test .left)) in (
+      l .inv .3 ∙ ap (λ (n : ℕ). ored (real .index (s .block) (s .multiplier)) (real .walk (s .block)) n (slots (s .table .now))) e,
+      l .inv .4 ∙ ap (λ (n : ℕ). ored (real .index (s .block) (s .multiplier)) (λ _. real .rays (s .block)) n (slots (s .marks .now))) e,
+    )
 
 pub or-block-spec : {M : Type 1} → statement M
 or-block-spec =

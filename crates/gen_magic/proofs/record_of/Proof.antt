@@ -1,7 +1,6 @@
 -- `gen_magic::record_of` meets its contract.
 use Prim.Native.Nat.{ℕ}
 use mathlib.Core.Path.{ap₂}
-use Rattle.gen_magic.specs.declared.Record.{Record}
 use borrow.Author.Needs.{needs}
 use Rattle.gen_magic.proofs.record_of.Statement.{statement}
 use Rattle.gen_magic.proofs.record_of.Tie as tie

@@ -1,5 +1,4 @@
 -- `gen_magic::unchosen` meets its contract.
-use Prim.Native.Nat.{ℕ}
 use mathlib.Core.Path.{sym, ap}
 use Rattle.gen_magic.specs.declared.Source.{Source}
 use Rattle.gen_magic.specs.Turn.{whyOf}

@@ -57,9 +57,10 @@ returns c =
     let b = a .args .block in
     let m = a .args .multiplier in
     let k : a .args .place + n .result - a .args .place ≡ n .result = omega arith in
-    let fits : a .args .place + real .size b ≤ length (a .args .marks .now) = subst (λ (x : ℕ). a .args .place + real .size b ≤ x) (sym (a .pre .1)) (a .pre .0) in
-    (part-ored (real .index b m) (real .walk b) (real .size b) (a .args .place) (a .args .place + n .result - a .args .place) (a .args .table .now) (o .last .1 .1 .0) (k ∙ n .ensures) (a .pre .0) (λ i _. index-lt b m _) (o .kept .1 .1 .0) (o .ensures .0),
-     part-ored (real .index b m) (λ _. real .rays b) (real .size b) (a .args .place) (a .args .place + n .result - a .args .place) (a .args .marks .now) (o .last .1 .1 .1 .0) (k ∙ n .ensures) fits (λ i _. index-lt b m _) (o .kept .1 .1 .1 .0) (o .ensures .1))
+    let fits : a .args .place + real .size b ≤ length (a .args .marks .now) = subst (λ (x : ℕ). a .args .place + real .size b ≤ x) (sym (a .pre .1)) (a .pre .0) in (
+      part-ored (real .index b m) (real .walk b) (real .size b) (a .args .place) (a .args .place + n .result - a .args .place) (a .args .table .now) (o .last .1 .1 .0) (k ∙ n .ensures) (a .pre .0) (λ i _. index-lt b m _) (o .kept .1 .1 .0) (o .ensures .0),
+      part-ored (real .index b m) (λ _. real .rays b) (real .size b) (a .args .place) (a .args .place + n .result - a .args .place) (a .args .marks .now) (o .last .1 .1 .1 .0) (k ∙ n .ensures) fits (λ i _. index-lt b m _) (o .kept .1 .1 .1 .0) (o .ensures .1),
+    )
 
 pub write-spec : {M : Type 1} → statement M
 write-spec =
