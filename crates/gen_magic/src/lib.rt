@@ -221,11 +221,11 @@ fn nothing(refusal: Refusal) -> Build
 }
 
 // A build refused on the way leaves table, marks and records all zero.
-fn stop(refusal: Refusal, table: &mut [u64], marks: &mut [u64]) -> Build
-    ensures { λ r. ⌜ leaves r (now (table .exit)) (now (marks .exit)) ≡ empty (numberOf refusal) (valuesOf refusal) (replicate (length (now (table .entry))) 0) (replicate (length (now (marks .entry))) 0) ⌝ }
+fn stop(refusal: Refusal, written: &mut [u64], marked: &mut [u64]) -> Build
+    ensures { λ r. ⌜ leaves r (now (written .exit)) (now (marked .exit)) ≡ empty (numberOf refusal) (valuesOf refusal) (replicate (length (now (written .entry))) 0) (replicate (length (now (marked .entry))) 0) ⌝ }
 {
-    clear(table);
-    clear(marks);
+    clear(written);
+    clear(marked);
     nothing(refusal)
 }
 

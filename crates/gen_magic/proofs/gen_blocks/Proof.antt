@@ -1,5 +1,5 @@
 -- `gen_magic::gen_blocks` meets its contract: before each turn the code's values stand for the run's state.
-use Prim.Native.Nat.{ℕ, _+_, _-_, _^_, _≤_, _<_, max, zero-le}
+use Prim.Native.Nat.{ℕ, _+_, _-_, _≤_, max, zero-le}
 use mathlib.Core.Path.{sym, ap, ap₂, _∙_, subst}
 use native.Mathlib.Nat.{le-trans, le-add-right}
 use native.Mathlib.Omega.{arith}
@@ -47,9 +47,6 @@ module _ (d : tie.After-place Inv-loop μ-loop) where
       below : (p e z : ℕ) → p ≤ e → e + z ≤ 107648 → p + z ≤ 107648
       below p e z h g = omega arith
 
-small : (p z : ℕ) → p + z ≤ 107648 → p < 2 ^ 32
-small p z h = omega arith
-
 write-requires : tie.Need-write-requires Inv-loop μ-loop
 write-requires c κs =
     let d = c .before .before .before in
@@ -57,7 +54,11 @@ write-requires c κs =
     (subst (λ (n : ℕ). d .place .given .0 .0 + real .size (d .before .before .before .before .before .loop .block) ≤ n) (h .marks-long ∙ sym (h .table-long)) (room d), h .marks-long ∙ sym (h .table-long))
 
 record-of-requires : tie.Need-record-of-requires Inv-loop μ-loop
-record-of-requires c κs = small _ _ (place-small (c .before .before .before .before .before .before .before .before))
+record-of-requires c κs =
+    let d = c .before .before .before .before .before .before .before .before in
+    let p = place-small d in
+    let e = end-small (d .before .before .before .before .before .loop .inv .1) (d .before .before .before .before .loop-test .taken) in
+    omega arith
 
 mul-records : tie.Need-mul-records Inv-loop μ-loop
 mul-records c = search needs

@@ -89,13 +89,13 @@ mul-marks : tie.Need-mul-marks Inv-loop μ-loop
 mul-marks c = omega (arith, slot-small (c .before))
 
 slice-read-marks : tie.Need-slice-read-marks Inv-loop μ-loop
-slice-read-marks c = in-marks (c .before .before)
+slice-read-marks c = let h = in-marks (c .before .before) in omega arith
 
 mul-marks-2 : tie.Need-mul-marks-2 Inv-loop μ-loop
 mul-marks-2 c = omega (arith, slot-small (c .before .before))
 
 slice-write-marks : tie.Need-slice-write-marks Inv-loop μ-loop
-slice-write-marks c = in-marks (c .before .before)
+slice-write-marks c = let h = in-marks (c .before .before) in omega arith
 
 add-i : tie.Need-add-i Inv-loop μ-loop
 add-i c = search needs
