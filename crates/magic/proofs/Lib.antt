@@ -1,0 +1,2 @@
+pub mod LookUps
+pub mod Audits
