@@ -11,11 +11,11 @@ use lib.Bits.{bitAnd, bitOr, and-zero-l}
 use lib.Dec.{T, eqb, eqb→eq}
 use Rattle.bits.specs.Set.{every}
 use Rattle.bits.proofs.Every.{every-at}
-use Rattle.bits.proofs.Least.{least-passes}
 use Rattle.packing.specs.declared.Taken.{Taken}
-use Rattle.packing.specs.Pack.{Blocks, destructive, clean, State, free, firstFree, place, hit, next}
+use Rattle.packing.specs.Pack.{Blocks, destructive, clean, State, place, hit, next}
 use Rattle.packing.specs.Promised.{Laws, slotOf}
 use Rattle.packing.proofs.Slots.{Hit, Missed, or-missed, or-hit}
+use Rattle.packing.proofs.Places.{place-first}
 use Rattle.packing.proofs.Next.{place-le}
 
 -- slot j keeps subset i of block b: the rays are marked there, and through them the walk is read
@@ -31,15 +31,11 @@ pub record Sound (B : Blocks) (n : ℕ) (s : State) : Type 0 where
 
 -- no mark in the range of the place shares a bit with the rays
 pub place-free : (B : Blocks) (n : ℕ) (s : State) → Sound B n s → (j : ℕ) → j < B .size n → bitAnd (s .marks (place B n s + j)) (B .rays n) ≡ 0
-unfolding place firstFree free
 place-free B n s w j h = go (eq-or-lt-of-le (place-le B n s))
   where
     go : (place B n s ≡ s .end) ⊎ (place B n s < s .end) → bitAnd (s .marks (place B n s + j)) (B .rays n) ≡ 0
     go (inl e) = ap (λ (x : ℕ). bitAnd x (B .rays n)) (w .beyond (place B n s + j) (omega arith)) ∙ and-zero-l (B .rays n)
-    go (inr l) =
-        eqb→eq _ 0
-        (every-at (B .size n) (λ i. eqb (bitAnd (s .marks (place B n s + i)) (B .rays n)) 0)
-        (subst T (sym (least-passes (s .end) (free (B .size n) (B .rays n) (s .marks)) l)) tt) j h)
+    go (inr l) = place-first B n s .apart l j h
 
 -- subsets that reach one slot have one walk
 pub clean-same : (B : Blocks) (b m : ℕ) → clean B b m ≡ true → (i j : ℕ) → i < B .size b → j < B .size b → B .index b m i ≡ B .index b m j → B .walk b i ≡ B .walk b j

@@ -140,8 +140,3 @@ seedBuild B candidate budget len = run B len 5 (bySearch B candidate budget) 128
 
 unfoldable pub lentBuild : Blocks → (ℕ → ℕ) → ℕ → Outcome
 lentBuild B lent len = run B len 6 (byLent B lent) 128
-
--- what an outcome leaves. 4, 5 and 6: "table, marks, records, counts all 0, used 0"
-abbrev pub left : Outcome → State
-left (done s) = s
-left (refused number at) = start
