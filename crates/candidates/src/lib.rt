@@ -1,7 +1,7 @@
 // The candidate's test and the search of one block.
 //
 // Holds: `search` by kind and square; `search_at` and `lent_at`, the choice of a build's block by number.
-// Ports: src/gen_tables/magic.rs (lines 60 to 97), the loop of generate_magic. The trial's `vec!` became a 4,096-slot array,
+// Ports: src/gen_tables/magic.rs (lines 83 to 107), the loop of generate_magic. The trial's `vec!` became a 4,096-slot array,
 // wiped slot by slot after each candidate; `while !done` became a counted search.
 // Adds: the fixed generator, the attempt budget, the test of a lent multiplier, refusals.
 use packing::Choice;
