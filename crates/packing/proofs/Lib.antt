@@ -1,3 +1,4 @@
+pub mod Agree
 pub mod Slots
 pub mod Largest
 pub mod Places

@@ -22,12 +22,16 @@ pub record Blocks : Type 0 where
 -- ---- candidates
 
 -- "A collision is destructive when two subsets reach one trial slot, .., with different walks."
-unfoldable pub destructive : Blocks → ℕ → ℕ → ℕ → ℕ → Bool
-destructive B b m i j = eqb (B .index b m i) (B .index b m j) && not (eqb (B .walk b i) (B .walk b j))
+unfoldable pub destructive : (ℕ → ℕ) → (ℕ → ℕ) → ℕ → ℕ → Bool
+destructive slot value i j = eqb (slot i) (slot j) && not (eqb (value i) (value j))
+
+-- no two of n values collide so
+unfoldable pub agree : ℕ → (ℕ → ℕ) → (ℕ → ℕ) → Bool
+agree n slot value = every n (λ i. every n (λ j. not (destructive slot value i j)))
 
 -- multiplier m has no destructive collision
 unfoldable pub clean : Blocks → ℕ → ℕ → Bool
-clean B b m = every (B .size b) (λ i. every (B .size b) (λ j. not (destructive B b m i j)))
+clean B b m = agree (B .size b) (B .index b m) (B .walk b)
 
 -- "A candidate passes when it isn't skipped and has no destructive collision."
 unfoldable pub passes : Blocks → ℕ → ℕ → Bool
