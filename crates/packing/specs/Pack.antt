@@ -25,11 +25,11 @@ pub record Blocks : Type 0 where
 unfoldable pub destructive : (ℕ → ℕ) → (ℕ → ℕ) → ℕ → ℕ → Bool
 destructive slot value i j = eqb (slot i) (slot j) && not (eqb (value i) (value j))
 
--- no two of n values collide so
+-- "no destructive collision" of n values, each at its slot
 unfoldable pub agree : ℕ → (ℕ → ℕ) → (ℕ → ℕ) → Bool
 agree n slot value = every n (λ i. every n (λ j. not (destructive slot value i j)))
 
--- multiplier m has no destructive collision
+-- multiplier m has none
 unfoldable pub clean : Blocks → ℕ → ℕ → Bool
 clean B b m = agree (B .size b) (B .index b m) (B .walk b)
 

@@ -43,7 +43,7 @@ pub record Placed (size rays : ℕ) (marks : ℕ → ℕ) (end p : ℕ) : Type 0
   pub apart : p < end → Apart size rays marks p
   pub none-before : (i : ℕ) → i < p → Apart size rays marks i → ⊥
 
--- block b fits after s at its first free place: `place` is `Placed`, and no other number is (proofs/Places.antt)
+-- block b "fits at its first free place" after s: `place` is `Placed`, and no other number is (proofs/Places.antt)
 abbrev pub Room : Blocks → ℕ → ℕ → State → Type 0
 Room B len b s = place B b s + B .size b ≤ len
 
