@@ -8,7 +8,7 @@ use native.Mathlib.Numerals.{one-add}
 use native.Mathlib.Omega.{arith}
 use lib.Dec.{lit<}
 use lib.Arith.{lt-one, digits-lt}
-use lib.Pow.{pow-pos, pow-mono, pow-add, high, low, shr-shr, mod-pow-add, mod-mod-pow, field, shl-exact}
+use lib.Pow.{pow-pos, pow-mono, pow-add, high, low, shr-shr, mod-pow-add, mod-mod-pow, field, shl-exact, shr-lt}
 use Rattle.bits.specs.Set.{bit, fromBits}
 
 pub bit-lt : (n t : ℕ) → bit n t < 2
@@ -28,6 +28,10 @@ bit-zero n = ap (λ (x : ℕ). x % 2) (div-one n)
 
 pub bit-half : (n t : ℕ) → bit (n / 2) t ≡ bit n (suc t)
 bit-half n t = bit-shr n 1 t ∙ ap (bit n) (one-add t)
+
+-- what a shift by k leaves of w digits
+pub shr-within : (w j k n : ℕ) → n < 2 ^ w → w ≤ j + k → n / 2 ^ k < 2 ^ j
+shr-within w j k n h l = shr-lt j k (lt-of-lt-of-le h (pow-mono l))
 
 -- past the number's length
 pub bit-past : (n k t : ℕ) → n < 2 ^ k → k ≤ t → bit n t ≡ zero

@@ -1,25 +1,25 @@
 -- The arrays of a block: a trial of them tells whether a multiplier is clean, and whether a candidate passes.
 -- Assumes nothing.
-use Prim.Native.Nat.{ℕ, zero, suc, _*_, _/_, _%_, _^_, _≤_, _<_}
-use mathlib.Core.Path.{_≡_, refl, sym, ap, ap₂, _∙_}
+use Prim.Native.Nat.{ℕ, _*_, _/_, _%_, _^_, _<_}
+use mathlib.Core.Path.{_≡_, sym, ap, ap₂, _∙_}
 use mathlib.Core.Bool.{Bool, not, _&&_}
 use mathlib.Core.List.{List}
 use native.Mathlib.Omega.{arith}
-use lib.Dec.{eqb, ltb}
-use lib.ListN.{length, getD, take, replicate, length-replicate}
+use lib.Dec.{ltb}
+use lib.ListN.{getD, take, replicate, length-replicate}
 use lib.Seq.{getD-take}
-use Rattle.bits.specs.Set.{every, count}
+use Rattle.bits.specs.Set.{count}
 use Rattle.bits.specs.Shown.{shown}
-use Rattle.bits.proofs.Every.{every-cong}
-use Rattle.bits.proofs.Shown.{getD-shown}
+use Rattle.bits.proofs.Shown.{getD-shown, getD-same}
 use Rattle.board.specs.Board.{mask}
 use Rattle.board.specs.Blocks.{kindOf, squareOf, shiftOf, subset}
 use Rattle.board.proofs.Blocks.{kind-lt, square-lt}
 use Rattle.board.proofs.Sizes.{size-high, shift-low, shift-high}
-use Rattle.packing.specs.Pack.{destructive, clean, passes}
+use Rattle.packing.specs.Pack.{agree, clean, passes}
+use Rattle.packing.proofs.Agree.{agree-cong}
 use Rattle.blocks.specs.Real.{real, magicIndex, skips}
 use Rattle.blocks.proofs.Real.{walk-some}
-use Rattle.candidates.specs.Trial.{Ready, Work, Empty, slotAt, valueAt, agree, passing}
+use Rattle.candidates.specs.Trial.{Ready, Work, Empty, slotAt, valueAt, passing}
 
 -- what stands at the front of a list
 front : (n : ℕ) (l : List ℕ) (f : ℕ → ℕ) → take n l ≡ shown n f → (i : ℕ) → i < n → getD l i 0 ≡ f i
@@ -45,11 +45,10 @@ module _ (b size shift : ℕ) (questions answers : List ℕ) (es : size ≡ real
       }
 
   pub clean-is : (m : ℕ) → agree size (slotAt shift m questions) (valueAt answers) ≡ clean real b m
-  unfolding agree clean destructive
+  unfolding clean
   clean-is m =
       ap (λ (n : ℕ). agree n (slotAt shift m questions) (valueAt answers)) es
-      ∙ every-cong (real .size b) _ _ (λ i h. every-cong (real .size b) _ _ (λ j k.
-      ap not (ap₂ _&&_ (ap₂ eqb (slot-is m i h) (slot-is m j k)) (ap not (ap₂ eqb (value-is i h) (value-is j k))))))
+      ∙ agree-cong (real .size b) (slotAt shift m questions) (real .index b m) (valueAt answers) (real .walk b) (slot-is m) value-is
 
   pub passes-is : (set m : ℕ) → set ≡ mask (kindOf b) (squareOf b) → passing set size shift questions answers m ≡ passes real b m
   unfolding passing passes skips
@@ -57,10 +56,5 @@ module _ (b size shift : ℕ) (questions answers : List ℕ) (es : size ≡ real
 
 -- ---- trial slots as they are made
 
-zero-at : (n j : ℕ) → getD {A = ℕ} (replicate n 0) j 0 ≡ 0
-zero-at zero j = refl
-zero-at (suc n) zero = refl
-zero-at (suc n) (suc j) = zero-at n j
-
 pub empty-zeros : Empty (replicate 4096 0)
-empty-zeros = record { long = length-replicate {A = ℕ} 4096 0; free = zero-at 4096 }
+empty-zeros = record { long = length-replicate {A = ℕ} 4096 0; free = getD-same 4096 0 }

@@ -1,4 +1,4 @@
 pub mod Trials
-pub mod First
 pub mod Block
 pub mod Unique
+pub mod Said

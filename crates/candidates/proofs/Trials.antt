@@ -1,25 +1,28 @@
 -- The trial slots, value by value: what goes in, when two clash, and the wiping.
 -- Assumes nothing.
-use Prim.Native.Nat.{ℕ, suc, _+_, _≤_, _<_}
+use Prim.Native.Nat.{ℕ, _+_, _≤_, _<_}
 use mathlib.Core.Path.{_≡_, refl, sym, ap, ap₂, _∙_, subst}
-use mathlib.Core.Bool.{Bool, true, false, cond, not, _&&_, _||_, true≢false}
+use mathlib.Core.Bool.{Bool, true, false, cond, _||_, true≢false}
 use mathlib.Core.List.{List}
 use mathlib.Core.Logic.{_⊎_, inl, inr}
 use native.Mathlib.Omega.{arith}
 use native.Mathlib.Decide.{ℕ-discrete}
-use borrow.Author.Tests.{eqb-true, eqb-false, eq-eqb, ne-eqb}
+use borrow.Author.Tests.{eqb-true, eqb-false}
 use lib.Dec.{eqb}
 use lib.ListN.{length, getD, set, length-set}
 use lib.Seq.{getD-set-same, getD-set-other}
-use Rattle.bits.proofs.Every.{every-holds, every-fails}
+use Rattle.packing.specs.Pack.{agree}
+use Rattle.packing.proofs.Agree.{agree-holds, agree-fails}
 use Rattle.packing.proofs.Slots.{Hit, Missed, hits}
-use Rattle.candidates.specs.Trial.{Empty, agree, Filled}
+use Rattle.candidates.specs.Trial.{Empty, Rest}
+
+-- the trial slots once n values went in: each holds its value, the others are 0
+pub record Filled (slot value : ℕ → ℕ) (n : ℕ) (trial : List ℕ) : Type 0 where
+  pub long : length trial ≡ 4096
+  pub reached : (i : ℕ) → i < n → getD trial (slot i) 0 ≡ value i
+  pub others : (j : ℕ) → Missed slot n j → getD trial j 0 ≡ 0
 
 module _ (slot value : ℕ → ℕ) where
-  -- "Refusing a slot reached twice with the same walk" is an error: that is no clash
-  clash : ℕ → ℕ → Bool
-  clash i j = eqb (slot i) (slot j) && not (eqb (value i) (value j))
-
   pub filled-none : (trial : List ℕ) → Empty trial → Filled slot value 0 trial
   filled-none trial e = record { long = e .long; reached = λ i l. omega arith; others = λ j _. e .free j }
 
@@ -49,24 +52,21 @@ module _ (slot value : ℕ → ℕ) where
 
     -- all went in: no two clash
     pub filled-agrees : agree n slot value ≡ true
-    unfolding agree
-    filled-agrees = every-holds n _ (λ i l. every-holds n _ (λ j k. go i j l k (ℕ-discrete (slot i) (slot j))))
-      where
-        go : (i j : ℕ) → i < n → j < n → Dec (slot i ≡ slot j) → not (eqb (slot i) (slot j) && not (eqb (value i) (value j))) ≡ true
-        go i j l k (yes e) = ap₂ (λ (x y : Bool). not (x && not y)) (eq-eqb (slot i) (slot j) e) (eq-eqb (value i) (value j) (sym (f .reached i l) ∙ ap (λ (x : ℕ). getD trial x 0) e ∙ f .reached j k))
-        go i j l k (no g) = ap (λ (x : Bool). not (x && not (eqb (value i) (value j)))) (ne-eqb (slot i) (slot j) g)
+    filled-agrees = agree-holds n slot value (λ i j l k e. sym (f .reached i l) ∙ ap (λ (x : ℕ). getD trial x 0) e ∙ f .reached j k)
 
     -- value n finds another at its slot
     pub filled-clashes : (size : ℕ) → n < size → (getD trial (slot n) 0 ≡ 0 → ⊥) → (getD trial (slot n) 0 ≡ value n → ⊥) → agree size slot value ≡ false
-    unfolding agree
     filled-clashes size l free differs = go (hits slot n (slot n))
       where
         go : Hit slot n (slot n) ⊎ Missed slot n (slot n) → agree size slot value ≡ false
         go (inr m) = absurd (free (f .others (slot n) m))
         go (inl h) =
-            every-fails size _ (h .by) (omega (arith, h .low))
-            (every-fails size _ n l
-            (ap₂ (λ (x y : Bool). not (x && not y)) (eq-eqb (slot (h .by)) (slot n) (h .at)) (ne-eqb (value (h .by)) (value n) (λ q. differs (ap (λ (x : ℕ). getD trial x 0) (sym (h .at)) ∙ f .reached (h .by) (h .low) ∙ q)))))
+            agree-fails size slot value (h .by) n (omega (arith, h .low)) l (h .at)
+            (λ q. differs (ap (λ (x : ℕ). getD trial x 0) (sym (h .at)) ∙ f .reached (h .by) (h .low) ∙ q))
+
+    -- what is to be wiped
+    pub filled-rest : Rest slot 0 n trial
+    filled-rest = record { long = f .long; free = λ j m. f .others j (λ i l. m i (omega arith) l) }
 
   -- ---- one turn, as `enter` tells it: r is whether v went in at `at`
 
@@ -92,25 +92,19 @@ module _ (slot value : ℕ → ℕ) where
             filled-clashes n trial f size l (λ e. eqb-false (getD trial at 0) 0 q (ap (λ (x : ℕ). getD trial x 0) ea ∙ e))
             (λ e. eqb-false (getD trial at 0) v h (ap (λ (x : ℕ). getD trial x 0) ea ∙ e ∙ sym ev))
 
-  -- ---- wiping
+-- ---- wiping
 
-  -- what is not 0 yet is at a slot of i or later
-  abbrev pub Rest : ℕ → ℕ → List ℕ → Type 0
-  Rest i n trial = (j : ℕ) → ((k : ℕ) → i ≤ k → k < n → slot k ≡ j → ⊥) → getD trial j 0 ≡ 0
-
-  pub rest-all : (n : ℕ) (trial : List ℕ) → Filled slot value n trial → Rest 0 n trial
-  rest-all n trial f j m = f .others j (λ i l. m i (omega arith) l)
-
-  pub rest-less : (i n at : ℕ) (trial : List ℕ) → at ≡ slot i → at < length trial → Rest i n trial → Rest (i + 1) n (set trial at 0)
-  rest-less i n at trial ea low r j m = go (ℕ-discrete at j)
+module _ (slot : ℕ → ℕ) where
+  pub rest-less : (i n at : ℕ) (trial : List ℕ) → at ≡ slot i → at < 4096 → Rest slot i n trial → Rest slot (i + 1) n (set trial at 0)
+  rest-less i n at trial ea low r = record { long = length-set trial at 0 ∙ r .long; free = λ j m. go j m (ℕ-discrete at j) }
     where
-      later : (k : ℕ) → i ≤ k → k < n → Dec (k ≡ i) → slot k ≡ j → (at ≡ j → ⊥) → ⊥
-      later k h l (yes q) e g = g (ea ∙ ap slot (sym q) ∙ e)
-      later k h l (no q) e g = m k (omega (arith, q)) l e
+      later : (j k : ℕ) → ((k : ℕ) → i + 1 ≤ k → k < n → slot k ≡ j → ⊥) → i ≤ k → k < n → Dec (k ≡ i) → slot k ≡ j → (at ≡ j → ⊥) → ⊥
+      later j k m h l (yes q) e g = g (ea ∙ ap slot (sym q) ∙ e)
+      later j k m h l (no q) e g = m k (omega (arith, q)) l e
 
-      go : Dec (at ≡ j) → getD (set trial at 0) j 0 ≡ 0
-      go (yes e) = ap (λ (x : ℕ). getD (set trial at 0) x 0) (sym e) ∙ getD-set-same trial at 0 0 low
-      go (no g) = getD-set-other trial at j 0 0 (λ q. g (sym q)) ∙ r j (λ k h l e. later k h l (ℕ-discrete k i) e g)
+      go : (j : ℕ) → ((k : ℕ) → i + 1 ≤ k → k < n → slot k ≡ j → ⊥) → Dec (at ≡ j) → getD (set trial at 0) j 0 ≡ 0
+      go j m (yes e) = ap (λ (x : ℕ). getD (set trial at 0) x 0) (sym e) ∙ getD-set-same trial at 0 0 (omega (arith, r .long))
+      go j m (no g) = getD-set-other trial at j 0 0 (λ q. g (sym q)) ∙ r .free j (λ k h l e. later j k m h l (ℕ-discrete k i) e g)
 
-  pub rest-none : (n : ℕ) (trial : List ℕ) → length trial ≡ 4096 → Rest n n trial → Empty trial
-  rest-none n trial long r = record { long = long; free = λ j. r j (λ k h l e. omega arith) }
+  pub rest-none : (n : ℕ) (trial : List ℕ) → Rest slot n n trial → Empty trial
+  rest-none n trial r = record { long = r .long; free = λ j. r .free j (λ k h l e. omega arith) }

@@ -3,17 +3,16 @@ use Prim.Native.Nat.{ℕ, _*_, _/_, _%_, _^_, _≤_, _<_}
 use mathlib.Core.Path.{_≡_}
 use mathlib.Core.Bool.{Bool, not, _&&_}
 use mathlib.Core.List.{List}
-use lib.Dec.{eqb, ltb}
+use lib.Dec.{ltb}
 use lib.ListN.{length, getD, take}
-use Rattle.bits.specs.Set.{every, count}
+use Rattle.bits.specs.Set.{count}
 use Rattle.bits.specs.Shown.{shown}
 use Rattle.board.specs.Blocks.{kindOf, squareOf, subset}
+use Rattle.packing.specs.Pack.{agree}
 use Rattle.blocks.specs.Real.{real}
 
--- the subsets and the walks of a block at the front of two arrays of 4,096
+-- the subsets and the walks of a block at the front of two arrays
 pub record Ready (b : ℕ) (questions answers : List ℕ) : Type 0 where
-  pub questions-long : length questions ≡ 4096
-  pub answers-long : length answers ≡ 4096
   pub questions-are : take (real .size b) questions ≡ shown (real .size b) (subset (kindOf b) (squareOf b))
   pub answers-are : take (real .size b) answers ≡ shown (real .size b) (real .walk b)
 
@@ -29,22 +28,17 @@ pub record Empty (trial : List ℕ) : Type 0 where
   pub long : length trial ≡ 4096
   pub free : (j : ℕ) → getD trial j 0 ≡ 0
 
--- the slot and the walk of subset i
+-- 4,096 trial slots, all free but those of i up to n - 1
+pub record Rest (slot : ℕ → ℕ) (i n : ℕ) (trial : List ℕ) : Type 0 where
+  pub long : length trial ≡ 4096
+  pub free : (j : ℕ) → ((k : ℕ) → i ≤ k → k < n → slot k ≡ j → ⊥) → getD trial j 0 ≡ 0
+
+-- the slot, "(candidate * subset) >> shift", and the walk of subset i
 unfoldable pub slotAt : ℕ → ℕ → List ℕ → ℕ → ℕ
 slotAt shift m questions i = m * getD questions i 0 % 2 ^ 64 / 2 ^ shift
 
 unfoldable pub valueAt : List ℕ → ℕ → ℕ
 valueAt answers i = getD answers i 0
-
--- no two of n values that differ share a slot
-unfoldable pub agree : ℕ → (ℕ → ℕ) → (ℕ → ℕ) → Bool
-agree n slot value = every n (λ i. every n (λ j. not (eqb (slot i) (slot j) && not (eqb (value i) (value j)))))
-
--- the trial slots once n values went in: each holds its value, the others are 0
-pub record Filled (slot value : ℕ → ℕ) (n : ℕ) (trial : List ℕ) : Type 0 where
-  pub long : length trial ≡ 4096
-  pub reached : (i : ℕ) → i < n → getD trial (slot i) 0 ≡ value i
-  pub others : (j : ℕ) → ((i : ℕ) → i < n → slot i ≡ j → ⊥) → getD trial j 0 ≡ 0
 
 -- "A candidate passes when it isn't skipped and has no destructive collision.", from what the arrays hold
 unfoldable pub passing : ℕ → ℕ → ℕ → List ℕ → List ℕ → ℕ → Bool

@@ -1,7 +1,7 @@
 // The candidate's test and the search of one block.
 //
 // Holds: `search` by kind and square; `search_at` and `lent_at`, the choice of a build's block by number.
-// Ports: src/gen_tables/magic.rs (lines 60 to 97), the loop of generate_magic. The trial's `vec!` became a 4,096-slot array,
+// Ports: src/gen_tables/magic.rs (lines 83 to 107), the loop of generate_magic. The trial's `vec!` became a 4,096-slot array,
 // wiped slot by slot after each candidate; `while !done` became a counted search.
 // Adds: the fixed generator, the attempt budget, the test of a lent multiplier, refusals.
 use packing::Choice;
@@ -11,12 +11,12 @@ use refusal::Refusal;
 use splitmix::Generator;
 ghost use mathlib.Core.Path.{_≡_};
 ghost use Prim.Native.Nat.{ℕ, _*_, _/_, _%_, _^_, _≤_, _<_};
-ghost use mathlib.Core.Bool.{Bool, cond, _||_};
+ghost use mathlib.Core.Bool.{cond, _||_};
 ghost use lib.Dec.{eqb};
 ghost use lib.ListN.{getD, set, length};
-ghost use Rattle.candidates.specs.Trial.{Ready, Work, Empty, Filled, slotAt, valueAt, agree, passing};
+ghost use Rattle.candidates.specs.Trial.{Ready, Work, Empty, Rest, slotAt, valueAt, passing};
 ghost use Rattle.bits.specs.Set.{least};
-ghost use Rattle.packing.specs.Pack.{takenAt, bySearch, byLent};
+ghost use Rattle.packing.specs.Pack.{agree, takenAt, bySearch, byLent};
 ghost use Rattle.blocks.specs.Real.{real};
 ghost use Rattle.board.specs.Board.{onBlock};
 ghost use Rattle.board.specs.Blocks.{blockOf};
@@ -76,7 +76,7 @@ fn fill(
 ) -> usize
     requires { ⌜ Work size shift (now answers) ⌝ }
     requires { ⌜ Empty (now trial) ⌝ }
-    ensures { λ r. ⌜ Filled (slotAt shift multiplier (now (questions .entry))) (valueAt (now (answers .entry))) r (now (trial .exit)) ⌝ }
+    ensures { λ r. ⌜ Rest (slotAt shift multiplier (now (questions .entry))) 0 r (now (trial .exit)) ⌝ }
     ensures { λ r. ⌜ (eqb r size ≡ agree size (slotAt shift multiplier (now (questions .entry))) (valueAt (now (answers .entry)))) × (r ≤ size) ⌝ }
 {
     let mut i: usize = 0;
@@ -91,16 +91,9 @@ fn fill(
 }
 
 // Wipes the slots of the first n questions: the others are 0.
-fn wipe(
-    multiplier: u64,
-    n: usize,
-    shift: u8,
-    questions: &[u64; 4096],
-    answers: &[u64; 4096],
-    trial: &mut [u64; 4096],
-)
+fn wipe(multiplier: u64, n: usize, shift: u8, questions: &[u64; 4096], trial: &mut [u64; 4096])
     requires { ⌜ ((52 ≤ shift) × (shift ≤ 59)) × (n ≤ 4096) ⌝ }
-    requires { ⌜ Filled (slotAt shift multiplier (now questions)) (valueAt (now answers)) n (now trial) ⌝ }
+    requires { ⌜ Rest (slotAt shift multiplier (now questions)) 0 n (now trial) ⌝ }
     ensures { λ _. ⌜ Empty (now (trial .exit)) ⌝ }
 {
     let mut i: usize = 0;
@@ -126,7 +119,7 @@ fn is_clean(
     ensures { λ _. ⌜ Empty (now (trial .exit)) ⌝ }
 {
     let n = fill(multiplier, size, shift, questions, answers, trial);
-    wipe(multiplier, n, shift, questions, answers, trial);
+    wipe(multiplier, n, shift, questions, trial);
     n == size
 }
 
@@ -258,6 +251,7 @@ fn search_block(block: usize, seed: u64, budget: u64) -> Outcome
     }
 }
 
+// By kind and square: 1, 2, then what the block's search says.
 pub fn search(kind: u8, sq: u8, seed: u64, budget: u64) -> Outcome
     ensures { λ r. ⌜ searched r ≡ onBlock kind sq (searchOf (blockOf kind sq) seed budget) ⌝ }
 {

@@ -2,7 +2,7 @@
 //
 // Holds: `gen_all_magic`, the build from a seed, and `gen_all_lent`, the build from lent multipliers; their parts: the first
 // free place, the writing of a block, the one loop over the blocks.
-// Ports: src/gen_tables/magic.rs (lines 42 to 136): generate_magic, which became `settle` (place and multiplier) and
+// Ports: src/gen_tables/magic.rs (lines 47 to 135): generate_magic, which became `settle` (place and multiplier) and
 // `write`, and gen_all_magic. The static tables became lent slices, the random draws a source of choices.
 // Adds: the attempt budget, the room, the build from lent multipliers, the outcome with its refusal.
 use packing::Choice;

@@ -1,27 +1,17 @@
 -- The look-up, by what was tested.
 -- Assumes nothing.
-use Prim.Native.Nat.{ℕ, _+_, _/_, _^_, _≤_, _<_}
+use Prim.Native.Nat.{ℕ, _≤_, _<_}
 use mathlib.Core.Path.{_≡_, refl, sym, ap, ap₂}
 use mathlib.Core.Bool.{Bool, true, false, _||_, true≢false}
 use mathlib.Core.List.{List, []}
-use native.Mathlib.Nat.{lt-of-lt-of-le}
 use borrow.Author.Tests.{le-leb, lt-leb, ltb-false}
 use lib.Bits.{bitAnd}
 use lib.Dec.{leb, ltb}
 use lib.ListN.{length, getD}
-use native.Mathlib.Omega.{arith}
-use lib.Pow.{pow-mono, shr-lt}
 use Rattle.refusal.specs.Paper.{gives, refuses, refuseIf}
 use Rattle.board.specs.Board.{rays}
 use Rattle.gen_magic.specs.declared.Record.{Record}
 use Rattle.magic.specs.LookUp.{slotIn, lookUp}
-
--- what a shift of 52 or more leaves of 64 bits
-pub index-small : (x k : ℕ) → x < 2 ^ 64 → 52 ≤ k → x / 2 ^ k < 4096
-index-small x k h l = shr-lt 12 k (lt-of-lt-of-le h (pow-mono (more l)))
-  where
-    more : 52 ≤ k → 64 ≤ 12 + k
-    more h = omega arith
 
 -- "shift outside 52 to 59"
 abbrev pub outside : ℕ → Bool

@@ -4,20 +4,50 @@
 use Prim.Native.Nat.{ℕ, _≤_, _<_}
 use mathlib.Core.Path.{_≡_, refl, sym, ap, _∙_, subst}
 use mathlib.Core.Bool.{Bool, true, false, not, true≢false}
+use mathlib.Core.Logic.{_↔_}
+use native.Mathlib.Nat.{le-refl}
 use native.Mathlib.Omega.{arith}
 use native.Mathlib.Decide.{decLt}
-use borrow.Author.Tests.{ltb-true, lt-ltb}
+use borrow.Author.Tests.{ltb-true, ltb-false, lt-ltb, le-ltb}
 use lib.Dec.{T, ltb}
 use Rattle.bits.specs.Set.{least}
 use Rattle.bits.proofs.Every.{is-true, both-r}
-use Rattle.bits.proofs.Least.{least-is, least-passes, least-before}
+use Rattle.bits.proofs.Least.{least-is, least-passes, least-before, least-none}
 use Rattle.packing.specs.declared.Taken.{Taken}
 use Rattle.packing.specs.declared.Choice.the-variants.{None, Chosen}
 use Rattle.packing.specs.Pack.{Blocks, passes, chosenIf, firstPassing, takenAt, bySearch, byLent, clean}
-use Rattle.packing.specs.Promised.{First, counted, lentAt}
+use Rattle.packing.specs.Promised.{First, NonePasses, counted, lentAt}
 
 pub none≢chosen : {x : Taken} → None ≡ Chosen x → ⊥
 none≢chosen {x} e = let z : _≡_ {A = ℕ} 0 1 = cc in omega arith
+
+-- ---- the first of any candidates that pass a test
+
+module _ (candidate : ℕ → ℕ) (budget : ℕ) (p : ℕ → Bool) where
+  -- candidate i passes, and none before it
+  pub taken-first : (i : ℕ) → i < budget → p i ≡ true → ((j : ℕ) → j < i → p j ≡ false) → takenAt candidate budget (least budget p) ≡ Chosen (counted candidate i)
+  unfolding takenAt
+  taken-first i l t h =
+      ap (takenAt candidate budget) (least-is budget p i l t h)
+      ∙ ap (λ (c : Bool). chosenIf c (counted candidate i)) (lt-ltb i budget l)
+
+  -- none within the budget passes
+  pub taken-none : ((j : ℕ) → j < budget → p j ≡ false) → takenAt candidate budget (least budget p) ≡ None
+  unfolding takenAt
+  taken-none h =
+      ap (takenAt candidate budget) (least-none budget p h)
+      ∙ ap (λ (c : Bool). chosenIf c (counted candidate budget)) (le-ltb budget budget (le-refl budget))
+
+  -- and then only
+  pub none-taken : takenAt candidate budget (least budget p) ≡ None → (j : ℕ) → j < budget → p j ≡ false
+  unfolding takenAt
+  none-taken e j h = least-before budget p j (go (ltb (least budget p) budget) refl e)
+    where
+      go : (t : Bool) → ltb (least budget p) budget ≡ t → chosenIf t (counted candidate (least budget p)) ≡ None → j < least budget p
+      go true q n = absurd (none≢chosen (sym n))
+      go false q n = omega (arith, ltb-false (least budget p) budget q)
+
+-- ---- a search
 
 module _ (B : Blocks) (candidate : ℕ → ℕ) where
   -- what was taken in a search
@@ -39,15 +69,13 @@ module _ (B : Blocks) (candidate : ℕ → ℕ) where
       go false h q = absurd (none≢chosen q)
 
   pub finds : (k b p : ℕ) → First B candidate k b p → bySearch B candidate k b ≡ Chosen (counted candidate p)
-  unfolding bySearch takenAt firstPassing
-  finds k b p f =
-      ap (takenAt candidate k) (least-is k (λ i. passes B b (candidate i)) p (f .within) (f .passing) (f .none-before))
-      ∙ ap (λ (t : Bool). chosenIf t (counted candidate p)) (lt-ltb p k (f .within))
+  unfolding bySearch firstPassing
+  finds k b p f = taken-first candidate k (λ i. passes B b (candidate i)) p (f .within) (f .passing) (f .none-before)
 
-  -- no attempt, nothing found
-  pub search-none : (b : ℕ) → bySearch B candidate 0 b ≡ None
-  unfolding bySearch takenAt firstPassing least
-  search-none b = refl
+  -- "budget spent, none passed": nothing is found exactly when no candidate within the budget passes
+  pub search-none : (k b : ℕ) → (bySearch B candidate k b ≡ None) ↔ NonePasses B candidate k b
+  unfolding bySearch firstPassing
+  search-none k b = (none-taken candidate k (λ i. passes B b (candidate i)), taken-none candidate k (λ i. passes B b (candidate i)))
 
   -- there is one first, whatever the budget
   pub one-first : (k k′ b p p′ : ℕ) → First B candidate k b p → First B candidate k′ b p′ → p ≡ p′
@@ -83,7 +111,18 @@ module _ (B : Blocks) (candidate : ℕ → ℕ) where
       let m : ℕ = candidate (firstPassing B candidate k b) in
       ap (λ (y : Taken). clean B b (y .multiplier)) (f .is) ∙ is-true (clean B b m) (both-r (not (B .skipped b m)) (clean B b m) (subst T (sym (f .first .passing)) tt))
 
+-- ---- lent multipliers
+
 module _ (B : Blocks) (lent : ℕ → ℕ) where
+  -- "lent multiplier collides": it is not taken exactly then
+  pub lent-none : (b : ℕ) → (byLent B lent b ≡ None) ↔ (clean B b (lent b) ≡ false)
+  unfolding byLent
+  lent-none b = (λ e. go (clean B b (lent b)) e, λ h. ap (λ (t : Bool). chosenIf t (lentAt lent b)) h)
+    where
+      go : (t : Bool) → chosenIf t (lentAt lent b) ≡ None → t ≡ false
+      go true e = absurd (none≢chosen (sym e))
+      go false e = refl
+
   pub lent-finds : (b : ℕ) → clean B b (lent b) ≡ true → byLent B lent b ≡ Chosen (lentAt lent b)
   unfolding byLent
   lent-finds b h = cc

@@ -1,5 +1,7 @@
+pub mod Agree
 pub mod Slots
 pub mod Largest
+pub mod Places
 pub mod Next
 pub mod Run
 pub mod Success
@@ -9,3 +11,4 @@ pub mod Sound
 pub mod Packed
 pub mod Right
 pub mod Exactly
+pub mod Refusals

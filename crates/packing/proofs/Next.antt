@@ -3,15 +3,14 @@
 use Prim.Native.Nat.{ℕ, _+_, _≤_, _<_}
 use mathlib.Core.Path.{_≡_, ap, _∙_}
 use native.Mathlib.Omega.{arith}
-use Rattle.bits.proofs.Least.{least-le}
 use Rattle.packing.specs.declared.Taken.{Taken}
-use Rattle.packing.specs.Pack.{Blocks, State, free, firstFree, place, put, next}
+use Rattle.packing.specs.Pack.{Blocks, State, place, put, next}
 use Rattle.packing.proofs.Slots.{put-same, put-other}
+use Rattle.packing.proofs.Places.{place-first}
 
 module _ (B : Blocks) (n : ℕ) (s : State) where
   pub place-le : place B n s ≤ s .end
-  unfolding place firstFree
-  place-le = least-le (s .end) (free (B .size n) (B .rays n) (s .marks))
+  place-le = place-first B n s .most
 
   module _ (x : Taken) where
     -- the end never falls, takes the block in, and goes no further

@@ -1,6 +1,6 @@
 -- A run, block by block: the ways that a block can go, what stands behind a success, and what behind a refusal.
 -- Assumes nothing.
-use Prim.Native.Nat.{ℕ, zero, suc, _+_, _≤_, _<_}
+use Prim.Native.Nat.{ℕ, zero, suc, _+_, _<_}
 use mathlib.Core.Path.{_≡_, refl, ap, ap₂, _∙_, subst, sym}
 use mathlib.Core.Bool.{Bool, true, false}
 use mathlib.Core.Logic.{_⊎_, inl, inr}
@@ -12,6 +12,7 @@ use Rattle.packing.specs.declared.Taken.{Taken}
 use Rattle.packing.specs.declared.Choice.{Choice}
 use Rattle.packing.specs.declared.Choice.the-variants.{None, Chosen}
 use Rattle.packing.specs.Pack.{Blocks, State, place, next, Outcome, done, refused, tried, step, run}
+use Rattle.packing.specs.Promised.{Room, Full}
 
 pub done≢refused : {s : State} {k b : ℕ} → done s ≡ refused k b → ⊥
 done≢refused {s} {k} {b} e = let z : _≡_ {A = ℕ} 0 1 = cc in omega arith
@@ -21,23 +22,17 @@ module _ (B : Blocks) (len why : ℕ) (choice : ℕ → Choice) where
   abbrev pub Ran : ℕ → State → Type 0
   Ran n t = run B len why choice n ≡ done t
 
-  abbrev pub Room : ℕ → State → Type 0
-  Room n t = place B n t + B .size n ≤ len
-
-  abbrev pub Full : ℕ → State → Type 0
-  Full n t = len < place B n t + B .size n
-
   -- ---- one block more
 
-  pub run-next : (n : ℕ) (t : State) (x : Taken) → Ran n t → Room n t → choice n ≡ Chosen x → Ran (suc n) (next B n t x)
+  pub run-next : (n : ℕ) (t : State) (x : Taken) → Ran n t → Room B len n t → choice n ≡ Chosen x → Ran (suc n) (next B n t x)
   unfolding run step tried
   run-next n t x e h q = ap (step B len why choice n) e ∙ ap₂ (tried B why n t) (le-leb (place B n t + B .size n) len h) q
 
-  pub run-full : (n : ℕ) (t : State) → Ran n t → Full n t → run B len why choice (suc n) ≡ refused 4 n
+  pub run-full : (n : ℕ) (t : State) → Ran n t → Full B len n t → run B len why choice (suc n) ≡ refused 4 n
   unfolding run step tried
   run-full n t e h = ap (step B len why choice n) e ∙ ap (λ (x : Bool). tried B why n t x (choice n)) (lt-leb (place B n t + B .size n) len h)
 
-  pub run-spent : (n : ℕ) (t : State) → Ran n t → Room n t → choice n ≡ None → run B len why choice (suc n) ≡ refused why n
+  pub run-spent : (n : ℕ) (t : State) → Ran n t → Room B len n t → choice n ≡ None → run B len why choice (suc n) ≡ refused why n
   unfolding run step tried
   run-spent n t e h q = ap (step B len why choice n) e ∙ ap₂ (tried B why n t) (le-leb (place B n t + B .size n) len h) q
 
@@ -47,15 +42,15 @@ module _ (B : Blocks) (len why : ℕ) (choice : ℕ → Choice) where
 
   -- and there is no other way
   data Way (n : ℕ) : Type 0 where
-    placed : (t : State) (x : Taken) → Ran n t → Room n t → choice n ≡ Chosen x → Way n
-    full : (t : State) → Ran n t → Full n t → Way n
-    spent : (t : State) → Ran n t → Room n t → choice n ≡ None → Way n
+    placed : (t : State) (x : Taken) → Ran n t → Room B len n t → choice n ≡ Chosen x → Way n
+    full : (t : State) → Ran n t → Full B len n t → Way n
+    spent : (t : State) → Ran n t → Room B len n t → choice n ≡ None → Way n
     stopped-before : (number b : ℕ) → run B len why choice n ≡ refused number b → Way n
 
   way : (n : ℕ) → Way n
   way n = go (run B len why choice n) refl
     where
-      choose : (t : State) → Ran n t → Room n t → (c : Choice) → choice n ≡ c → Way n
+      choose : (t : State) → Ran n t → Room B len n t → (c : Choice) → choice n ≡ c → Way n
       choose t e h None q = spent t e h q
       choose t e h (Chosen x) q = placed t x e h q
 
@@ -74,7 +69,7 @@ module _ (B : Blocks) (len why : ℕ) (choice : ℕ → Choice) where
     pub before : State
     pub taken : Taken
     pub ran : Ran n before
-    pub room : Room n before
+    pub room : Room B len n before
     pub chose : choice n ≡ Chosen taken
     pub now : s ≡ next B n before taken
 
@@ -94,7 +89,7 @@ module _ (B : Blocks) (len why : ℕ) (choice : ℕ → Choice) where
 
   -- no room for block b after `before`, or room and nothing chosen
   abbrev pub Cause : ℕ → ℕ → State → Type 0
-  Cause number b before = ((number ≡ 4) × Full b before) ⊎ ((number ≡ why) × Room b before × (choice b ≡ None))
+  Cause number b before = ((number ≡ 4) × Full B len b before) ⊎ ((number ≡ why) × Room B len b before × (choice b ≡ None))
 
   -- the blocks before b were placed, and block b was not
   pub record Stopped (number b : ℕ) : Type 0 where
@@ -120,6 +115,21 @@ module _ (B : Blocks) (len why : ℕ) (choice : ℕ → Choice) where
           let w = ih number b (r ∙ cc) in
           let l : b < n = w .0 in
           (omega arith, w .1)
+
+  -- by the number, where `why` is another than 4
+  pub stopped-full : (why ≡ 4 → ⊥) → (n b : ℕ) → run B len why choice n ≡ refused 4 b → (b < n) × (t : State) × Ran b t × Full B len b t
+  stopped-full ne n b e = let w = stopped n 4 b e in go (w .0) (w .1) (w .1 .cause)
+    where
+      go : b < n → (w : Stopped 4 b) → Cause 4 b (w .before) → (b < n) × (t : State) × Ran b t × Full B len b t
+      go l w (inl q) = (l, w .before, w .ran, q .1)
+      go l w (inr q) = absurd (ne (sym (q .0)))
+
+  pub stopped-spent : (why ≡ 4 → ⊥) → (n b : ℕ) → run B len why choice n ≡ refused why b → (b < n) × (t : State) × Ran b t × Room B len b t × (choice b ≡ None)
+  stopped-spent ne n b e = let w = stopped n why b e in go (w .0) (w .1) (w .1 .cause)
+    where
+      go : b < n → (w : Stopped why b) → Cause why b (w .before) → (b < n) × (t : State) × Ran b t × Room B len b t × (choice b ≡ None)
+      go l w (inl q) = absurd (ne (q .0))
+      go l w (inr q) = (l, w .before, w .ran, q .1, q .2)
 
   -- "The first failing block decides."
   pub refusal-stays : (number b n : ℕ) → b < n → run B len why choice (suc b) ≡ refused number b → run B len why choice n ≡ refused number b

@@ -1,16 +1,16 @@
 -- Builds from one seed with other budgets and other room: demand 3.
 -- Assumes nothing.
-use Prim.Native.Nat.{ℕ, _+_, _≤_, _<_}
+use Prim.Native.Nat.{ℕ, _≤_, _<_}
 use mathlib.Core.Path.{_≡_, refl, sym, ap, _∙_}
-use mathlib.Core.Logic.{inl, inr}
+use native.Mathlib.Nat.{not-suc-le-zero}
 use native.Mathlib.Omega.{arith}
 use Rattle.bits.specs.Shown.{sum}
-use Rattle.packing.specs.Pack.{Blocks, bySearch, State, start, place, done, refused, run, seedBuild}
-use Rattle.packing.specs.Promised.{mostAttempts}
+use Rattle.packing.specs.Pack.{Blocks, bySearch, State, start, done, refused, run, seedBuild}
+use Rattle.packing.specs.Promised.{Room, mostAttempts}
 use Rattle.packing.proofs.Largest.{largest-le, largest-least}
 use Rattle.packing.proofs.Next.{place-le}
-use Rattle.packing.proofs.Run.{Ran, run-full, run-spent, Stopped, Cause, stopped, refusal-stays}
-use Rattle.packing.proofs.Success.{chose, end-fits, end-total, never-full, succeeds-again, same-state}
+use Rattle.packing.proofs.Run.{Ran, run-full, run-spent, stopped-full, stopped-spent, refusal-stays}
+use Rattle.packing.proofs.Success.{chose, end-fits, end-total, succeeds-again, same-state}
 use Rattle.packing.proofs.Choices.{search-none, search-within, search-more, search-agrees}
 
 module _ (B : Blocks) (candidate : ℕ → ℕ) where
@@ -29,6 +29,11 @@ module _ (B : Blocks) (candidate : ℕ → ℕ) where
   pub needs-room : (k len : ℕ) (s : State) → seedBuild B candidate k len ≡ done s → s .end ≤ len
   unfolding seedBuild
   needs-room k len s e = end-fits B len 5 (bySearch B candidate k) 128 s e
+
+  -- "the final end is the used length", at most all sizes together
+  pub used-total : (k len : ℕ) (s : State) → seedBuild B candidate k len ≡ done s → s .end ≤ sum 128 (B .size)
+  unfolding seedBuild
+  used-total k len s e = end-total B len 5 (bySearch B candidate k) 128 s e
 
   -- the blocks before n, where the end fits and the budget reaches each attempt count
   again : (k len k′ len′ n : ℕ) (s : State) → Ran B len 5 (bySearch B candidate k) n s → s .end ≤ len′ → ((b : ℕ) → b < n → s .taken b .count ≤ k′) → Ran B len′ 5 (bySearch B candidate k′) n s
@@ -58,41 +63,25 @@ module _ (B : Blocks) (candidate : ℕ → ℕ) where
   -- "a refusal for room stands at its block under any larger allowed budget"
   pub room-stands : (k k′ len b : ℕ) → k ≤ k′ → seedBuild B candidate k len ≡ refused 4 b → seedBuild B candidate k′ len ≡ refused 4 b
   unfolding seedBuild
-  room-stands k k′ len b h e = let w = stopped B len 5 (bySearch B candidate k) 128 4 b e in go (w .0) (w .1) (w .1 .cause)
-    where
-      go : b < 128 → (w : Stopped B len 5 (bySearch B candidate k) 4 b) → Cause B len 5 (bySearch B candidate k) 4 b (w .before) → run B len 5 (bySearch B candidate k′) 128 ≡ refused 4 b
-      go l w (inl q) =
-          refusal-stays B len 5 (bySearch B candidate k′) 4 b 128 l
-          (run-full B len 5 (bySearch B candidate k′) b (w .before)
-          (again k len k′ len b (w .before) (w .ran) (end-fits B len 5 (bySearch B candidate k) b (w .before) (w .ran))
-          (λ a i. omega (arith, search-within B candidate k a (w .before .taken a) (chose B len 5 (bySearch B candidate k) b (w .before) (w .ran) a i))))
-          (q .1))
-      go l w (inr q) = let z : _≡_ {A = ℕ} 4 5 = q .0 in absurd (omega arith)
+  room-stands k k′ len b h e =
+      let w = stopped-full B len 5 (bySearch B candidate k) (λ q. omega arith) 128 b e in
+      refusal-stays B len 5 (bySearch B candidate k′) 4 b 128 (w .0)
+      (run-full B len 5 (bySearch B candidate k′) b (w .1)
+      (again k len k′ len b (w .1) (w .2) (end-fits B len 5 (bySearch B candidate k) b (w .1) (w .2))
+      (λ a i. omega (arith, search-within B candidate k a (w .1 .taken a) (chose B len 5 (bySearch B candidate k) b (w .1) (w .2) a i))))
+      (w .3))
 
   -- "one for candidates stands at its block with any more room"
   pub spent-stands : (k len len′ b : ℕ) → len ≤ len′ → seedBuild B candidate k len ≡ refused 5 b → seedBuild B candidate k len′ ≡ refused 5 b
   unfolding seedBuild
-  spent-stands k len len′ b h e = let w = stopped B len 5 (bySearch B candidate k) 128 5 b e in go (w .0) (w .1) (w .1 .cause)
-    where
-      go : b < 128 → (w : Stopped B len 5 (bySearch B candidate k) 5 b) → Cause B len 5 (bySearch B candidate k) 5 b (w .before) → run B len′ 5 (bySearch B candidate k) 128 ≡ refused 5 b
-      go l w (inl q) = let z : _≡_ {A = ℕ} 5 4 = q .0 in absurd (omega arith)
-      go l w (inr q) =
-          let f : w .before .end ≤ len = end-fits B len 5 (bySearch B candidate k) b (w .before) (w .ran) in
-          let r : place B b (w .before) + B .size b ≤ len = q .1 in
-          refusal-stays B len′ 5 (bySearch B candidate k) 5 b 128 l
-          (run-spent B len′ 5 (bySearch B candidate k) b (w .before)
-          (succeeds-again B 5 len len′ (bySearch B candidate k) (bySearch B candidate k) b (w .before) (w .ran) (omega arith) (λ a i. refl))
-          (omega arith) (q .2))
-
-  -- ---- room for all sizes: "With 107,648 slots a build never answers 4", "the used length, at most 107,648"
-
-  pub never-room : (k len b : ℕ) → sum 128 (B .size) ≤ len → seedBuild B candidate k len ≡ refused 4 b → ⊥
-  unfolding seedBuild
-  never-room k len b h e = never-full B len 5 (bySearch B candidate k) 128 b (λ q. omega arith) h e
-
-  pub used-total : (k len : ℕ) (s : State) → seedBuild B candidate k len ≡ done s → s .end ≤ sum 128 (B .size)
-  unfolding seedBuild
-  used-total k len s e = end-total B len 5 (bySearch B candidate k) 128 s e
+  spent-stands k len len′ b h e =
+      let w = stopped-spent B len 5 (bySearch B candidate k) (λ q. omega arith) 128 b e in
+      let f : w .1 .end ≤ len = end-fits B len 5 (bySearch B candidate k) b (w .1) (w .2) in
+      let r : Room B len b (w .1) = w .3 in
+      refusal-stays B len′ 5 (bySearch B candidate k) 5 b 128 (w .0)
+      (run-spent B len′ 5 (bySearch B candidate k) b (w .1)
+      (succeeds-again B 5 len len′ (bySearch B candidate k) (bySearch B candidate k) b (w .1) (w .2) (omega arith) (λ a i. refl))
+      (omega arith) (w .4))
 
   -- ---- block 0
 
@@ -106,4 +95,4 @@ module _ (B : Blocks) (candidate : ℕ → ℕ) where
   unfolding seedBuild run
   first-spent len h =
       refusal-stays B len 5 (bySearch B candidate 0) 5 0 128 (omega arith)
-      (run-spent B len 5 (bySearch B candidate 0) 0 start refl (omega (arith, place-le B 0 start)) (search-none B candidate 0))
+      (run-spent B len 5 (bySearch B candidate 0) 0 start refl (omega (arith, place-le B 0 start)) (search-none B candidate 0 0 .1 (λ i l. absurd (not-suc-le-zero l))))

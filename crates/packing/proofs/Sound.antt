@@ -1,21 +1,18 @@
 -- What holds between any two blocks, and what the next block then finds and leaves in a slot.
 -- Assumes nothing; of one more block, `Laws`.
 use Prim.Native.Nat.{ℕ, _+_, _≤_, _<_}
-use mathlib.Core.Path.{_≡_, refl, sym, ap, _∙_, subst}
-use mathlib.Core.Bool.{Bool, true, false, not, _&&_, false≢true}
+use mathlib.Core.Path.{_≡_, refl, sym, ap, _∙_}
+use mathlib.Core.Bool.{true}
 use mathlib.Core.Logic.{_⊎_, inl, inr}
 use native.Mathlib.Nat.{eq-or-lt-of-le}
 use native.Mathlib.Omega.{arith}
-use borrow.Author.Tests.{eq-eqb}
 use lib.Bits.{bitAnd, bitOr, and-zero-l}
-use lib.Dec.{T, eqb, eqb→eq}
-use Rattle.bits.specs.Set.{every}
-use Rattle.bits.proofs.Every.{every-at}
-use Rattle.bits.proofs.Least.{least-passes}
 use Rattle.packing.specs.declared.Taken.{Taken}
-use Rattle.packing.specs.Pack.{Blocks, destructive, clean, State, free, firstFree, place, hit, next}
+use Rattle.packing.specs.Pack.{Blocks, clean, State, place, hit, next}
 use Rattle.packing.specs.Promised.{Laws, slotOf}
+use Rattle.packing.proofs.Agree.{agree-same}
 use Rattle.packing.proofs.Slots.{Hit, Missed, or-missed, or-hit}
+use Rattle.packing.proofs.Places.{place-first}
 use Rattle.packing.proofs.Next.{place-le}
 
 -- slot j keeps subset i of block b: the rays are marked there, and through them the walk is read
@@ -31,29 +28,16 @@ pub record Sound (B : Blocks) (n : ℕ) (s : State) : Type 0 where
 
 -- no mark in the range of the place shares a bit with the rays
 pub place-free : (B : Blocks) (n : ℕ) (s : State) → Sound B n s → (j : ℕ) → j < B .size n → bitAnd (s .marks (place B n s + j)) (B .rays n) ≡ 0
-unfolding place firstFree free
 place-free B n s w j h = go (eq-or-lt-of-le (place-le B n s))
   where
     go : (place B n s ≡ s .end) ⊎ (place B n s < s .end) → bitAnd (s .marks (place B n s + j)) (B .rays n) ≡ 0
     go (inl e) = ap (λ (x : ℕ). bitAnd x (B .rays n)) (w .beyond (place B n s + j) (omega arith)) ∙ and-zero-l (B .rays n)
-    go (inr l) =
-        eqb→eq _ 0
-        (every-at (B .size n) (λ i. eqb (bitAnd (s .marks (place B n s + i)) (B .rays n)) 0)
-        (subst T (sym (least-passes (s .end) (free (B .size n) (B .rays n) (s .marks)) l)) tt) j h)
+    go (inr l) = place-first B n s .apart l j h
 
 -- subsets that reach one slot have one walk
 pub clean-same : (B : Blocks) (b m : ℕ) → clean B b m ≡ true → (i j : ℕ) → i < B .size b → j < B .size b → B .index b m i ≡ B .index b m j → B .walk b i ≡ B .walk b j
-unfolding clean destructive
-clean-same B b m e i j hi hj q =
-    eqb→eq _ _
-    (unless (eqb (B .index b m i) (B .index b m j)) (eqb (B .walk b i) (B .walk b j))
-    (every-at (B .size b) (λ j. not (destructive B b m i j)) (every-at (B .size b) (λ i. every (B .size b) (λ j. not (destructive B b m i j))) (subst T (sym e) tt) i hi) j hj)
-    (eq-eqb _ _ q))
-  where
-    unless : (c d : Bool) → T (not (c && not d)) → c ≡ true → T d
-    unless true true t r = tt
-    unless true false t r = t
-    unless false d t r = absurd (false≢true r)
+unfolding clean
+clean-same B b m = agree-same (B .size b) (B .index b m) (B .walk b)
 
 -- ---- one more block
 

@@ -10,9 +10,10 @@ use Rattle.bits.proofs.Shown.{sum-within}
 use Rattle.packing.specs.declared.Taken.{Taken}
 use Rattle.packing.specs.declared.Choice.{Choice}
 use Rattle.packing.specs.declared.Choice.the-variants.{Chosen}
-use Rattle.packing.specs.Pack.{Blocks, State, start, place, next, done, refused, run}
+use Rattle.packing.specs.Pack.{Blocks, State, start, next, done, refused, run}
+use Rattle.packing.specs.Promised.{Full}
 use Rattle.packing.proofs.Next.{place-le, end-old, end-new, end-most, offset-at, offset-before, taken-at, taken-before}
-use Rattle.packing.proofs.Run.{Ran, run-next, Last, last, Stopped, Cause, stopped}
+use Rattle.packing.proofs.Run.{Ran, run-next, Last, last, stopped-full}
 
 module _ (B : Blocks) (len why : ℕ) (choice : ℕ → Choice) where
   -- a run of no block
@@ -57,11 +58,11 @@ module _ (B : Blocks) (len why : ℕ) (choice : ℕ → Choice) where
 
   -- room for all sizes is room enough
   pub never-full : (n b : ℕ) → (why ≡ 4 → ⊥) → sum n (B .size) ≤ len → run B len why choice n ≡ refused 4 b → ⊥
-  never-full n b ne h e = let w = stopped B len why choice n 4 b e in go (w .0) (w .1) (w .1 .cause)
-    where
-      go : b < n → (w : Stopped B len why choice 4 b) → Cause B len why choice 4 b (w .before) → ⊥
-      go l w (inl q) = let f : len < place B b (w .before) + B .size b = q .1 in omega (arith, place-le B b (w .before), end-total b (w .before) (w .ran), sum-within b n (B .size) l)
-      go l w (inr q) = ne (sym (q .0))
+  never-full n b ne h e =
+      let w = stopped-full B len why choice ne n b e in
+      let l : b < n = w .0 in
+      let f : Full B len b (w .1) = w .3 in
+      omega (arith, place-le B b (w .1), end-total b (w .1) (w .2), sum-within b n (B .size) l)
 
 -- ---- two runs
 

@@ -22,12 +22,16 @@ pub record Blocks : Type 0 where
 -- ---- candidates
 
 -- "A collision is destructive when two subsets reach one trial slot, .., with different walks."
-unfoldable pub destructive : Blocks → ℕ → ℕ → ℕ → ℕ → Bool
-destructive B b m i j = eqb (B .index b m i) (B .index b m j) && not (eqb (B .walk b i) (B .walk b j))
+unfoldable pub destructive : (ℕ → ℕ) → (ℕ → ℕ) → ℕ → ℕ → Bool
+destructive slot value i j = eqb (slot i) (slot j) && not (eqb (value i) (value j))
 
--- multiplier m has no destructive collision
+-- "no destructive collision" of n values, each at its slot
+unfoldable pub agree : ℕ → (ℕ → ℕ) → (ℕ → ℕ) → Bool
+agree n slot value = every n (λ i. every n (λ j. not (destructive slot value i j)))
+
+-- multiplier m has none
 unfoldable pub clean : Blocks → ℕ → ℕ → Bool
-clean B b m = every (B .size b) (λ i. every (B .size b) (λ j. not (destructive B b m i j)))
+clean B b m = agree (B .size b) (B .index b m) (B .walk b)
 
 -- "A candidate passes when it isn't skipped and has no destructive collision."
 unfoldable pub passes : Blocks → ℕ → ℕ → Bool
@@ -140,8 +144,3 @@ seedBuild B candidate budget len = run B len 5 (bySearch B candidate budget) 128
 
 unfoldable pub lentBuild : Blocks → (ℕ → ℕ) → ℕ → Outcome
 lentBuild B lent len = run B len 6 (byLent B lent) 128
-
--- what an outcome leaves. 4, 5 and 6: "table, marks, records, counts all 0, used 0"
-abbrev pub left : Outcome → State
-left (done s) = s
-left (refused number at) = start

@@ -30,7 +30,28 @@ pub record Right (B : Blocks) (len : ℕ) (s : State) : Type 0 where
   pub table-after : (j : ℕ) → s .end ≤ j → s .table j ≡ 0
   pub marks-after : (j : ℕ) → s .end ≤ j → s .marks j ≡ 0
 
--- ---- success, told without a run
+-- ---- places
+
+-- the marks at i up to i + size - 1 share no bit with the rays
+abbrev pub Apart : ℕ → ℕ → (ℕ → ℕ) → ℕ → Type 0
+Apart size rays marks i = (j : ℕ) → j < size → bitAnd (marks (i + j)) rays ≡ 0
+
+-- p is the place, told without a search: "the smallest i below the end such that the marks at i up to i + size - 1 share
+-- no bit with its rays; if none, the end"
+pub record Placed (size rays : ℕ) (marks : ℕ → ℕ) (end p : ℕ) : Type 0 where
+  pub most : p ≤ end
+  pub apart : p < end → Apart size rays marks p
+  pub none-before : (i : ℕ) → i < p → Apart size rays marks i → ⊥
+
+-- block b "fits at its first free place" after s: `place` is `Placed`, and no other number is (proofs/Places.antt)
+abbrev pub Room : Blocks → ℕ → ℕ → State → Type 0
+Room B len b s = place B b s + B .size b ≤ len
+
+-- "If place + size exceeds the table, no room."
+abbrev pub Full : Blocks → ℕ → ℕ → State → Type 0
+Full B len b s = len < place B b s + B .size b
+
+-- ---- success and refusal, told without a run
 
 -- the state after blocks 0 to n - 1, each at its first free place with what was taken for it
 unfoldable pub after : Blocks → (ℕ → Taken) → ℕ → State
@@ -39,7 +60,7 @@ after B taken (suc n) = next B n (after B taken n) (taken n)
 
 -- each of them fits there
 abbrev pub Fits : Blocks → ℕ → (ℕ → Taken) → ℕ → Type 0
-Fits B len taken n = (b : ℕ) → b < n → place B b (after B taken b) + B .size b ≤ len
+Fits B len taken n = (b : ℕ) → b < n → Room B len b (after B taken b)
 
 -- the candidate at p, from 0, is within the budget, passes, and none before it does
 pub record First (B : Blocks) (candidate : ℕ → ℕ) (budget b p : ℕ) : Type 0 where
@@ -47,14 +68,22 @@ pub record First (B : Blocks) (candidate : ℕ → ℕ) (budget b p : ℕ) : Typ
   pub passing : passes B b (candidate p) ≡ true
   pub none-before : (i : ℕ) → i < p → passes B b (candidate i) ≡ false
 
--- that candidate, with its position from 1
+-- "budget spent, none passed"
+abbrev pub NonePasses : Blocks → (ℕ → ℕ) → ℕ → ℕ → Type 0
+NonePasses B candidate budget b = (i : ℕ) → i < budget → passes B b (candidate i) ≡ false
+
+-- the candidate at p, with its position from 1
 abbrev pub counted : (ℕ → ℕ) → ℕ → Taken
 counted candidate p = record { multiplier = candidate p; count = suc p }
+
+-- what each block takes, by the position of its candidate
+abbrev pub takenBy : (ℕ → ℕ) → (ℕ → ℕ) → ℕ → Taken
+takenBy candidate position b = counted candidate (position b)
 
 -- "each block, in the fixed order, fits at its first free place and has a passing candidate within the budget; it takes
 -- the first": so for blocks 0 to n - 1
 pub record EachFirst (B : Blocks) (candidate : ℕ → ℕ) (budget len : ℕ) (position : ℕ → ℕ) (n : ℕ) : Type 0 where
-  pub fits : Fits B len (λ b. counted candidate (position b)) n
+  pub fits : Fits B len (takenBy candidate position) n
   pub first : (b : ℕ) → b < n → First B candidate budget b (position b)
 
 -- a lent multiplier: "Its attempt counts are 0."

@@ -1,7 +1,7 @@
 // Candidates: SplitMix64, and the AND of three of its outputs.
 //
 // Holds: the generator and a draw by value.
-// Ports: `random_bitboard` of src/gen_tables/magic_helpers.rs (lines 54 to 57), with SmallRng replaced.
+// Ports: `random_bitboard` of src/gen_tables/magic_helpers.rs (lines 54 to 56), with SmallRng replaced.
 // Adds: the fixed generator (Steele, Lea and Flood; Vigna's reference code).
 ghost use mathlib.Core.Path.{_≡_};
 ghost use Rattle.splitmix.specs.SplitMix.{advanced, mixed, drawn};

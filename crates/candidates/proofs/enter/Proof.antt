@@ -1,31 +1,24 @@
+-- `candidates::enter` meets its contract.
 use mathlib.Core.Path.{refl, sym}
 use borrow.Author.Needs.{needs}
 use Rattle.candidates.proofs.enter.Statement.{statement}
 use Rattle.candidates.proofs.enter.Tie as tie
-use Rattle.candidates.proofs.enter.Reads as reads
-use Rattle.candidates.proofs.enter.Lts as lts
 
--- src/lib.rt:47:15
 mul-old : tie.Need-mul-old
 mul-old c = search needs
 
--- src/lib.rt:47:15
 element-copy-out-old : tie.Need-element-copy-out-old
 element-copy-out-old c = search needs
 
--- src/lib.rt:49:9
 mul-trial : tie.Need-mul-trial
 mul-trial c = search needs
 
--- src/lib.rt:49:9
 element-write-trial : tie.Need-element-write-trial
 element-write-trial c = search needs
 
--- src/lib.rt:50:9
 returns : tie.Need-returns
 returns c = (sym (c .if1 .taken), refl)
 
--- src/lib.rt:42:1
 returns-2 : tie.Need-returns-2
 returns-2 c = (sym (c .if1 .left), refl)
 

@@ -1,14 +1,13 @@
 -- `candidates::fill` meets its contract: before turn i the first i walks are in.
 use Prim.Native.Nat.{ℕ, _+_, _-_, _≤_}
-use mathlib.Core.Path.{_≡_, refl, sym, _∙_, subst}
-use mathlib.Core.Bool.{Bool, true, false, not, true≢false}
+use mathlib.Core.Path.{_≡_, refl, sym, _∙_}
+use mathlib.Core.Bool.{true, false}
 use native.Mathlib.Omega.{arith}
-use borrow.Author.Tests.{eq-eqb, ne-eqb}
-use lib.Dec.{T}
+use borrow.Author.Tests.{eq-eqb, ne-eqb, not-true, not-false}
 use lib.ListN.{getD}
-use Rattle.bits.proofs.Every.{is-false}
-use Rattle.candidates.specs.Trial.{agree, Filled, slotAt, valueAt}
-use Rattle.candidates.proofs.Trials.{filled-none, filled-agrees, went-in, stayed-out, turn-clashes}
+use Rattle.packing.specs.Pack.{agree}
+use Rattle.candidates.specs.Trial.{slotAt, valueAt}
+use Rattle.candidates.proofs.Trials.{Filled, filled-none, filled-agrees, filled-rest, went-in, stayed-out, turn-clashes}
 use Rattle.candidates.proofs.fill.Statement.{statement}
 use Rattle.candidates.proofs.fill.Tie as tie
 
@@ -40,10 +39,6 @@ element-copy-out-enter c = omega (arith, c .before .before .before .before .pre 
 enter-requires : tie.Need-enter-requires Inv-loop μ-loop
 enter-requires c κs = c .before .before .slot .ensures .1
 
-is-so : (b : Bool) → not b ≡ false → b ≡ true
-is-so true e = refl
-is-so false e = absurd (true≢false e)
-
 -- the turn, as `enter` tells it
 module _ (c : tie.After-enter Inv-loop μ-loop) where
   abbrev slots : ℕ → ℕ
@@ -71,8 +66,8 @@ module _ (c : tie.After-enter Inv-loop μ-loop) where
 
 returns : tie.Need-returns Inv-loop μ-loop
 returns c =
-    let t = is-false (c .before .enter .result) (subst T (sym (c .if1 .taken)) tt) in
-    (kept-out (c .before) t, (ne-eqb (c .before .before .before .before .before .before .before .loop .i) (c .before .before .before .before .before .before .before .before .args .size) (λ e. omega (arith, e)) ∙ sym (clashes (c .before) t), omega arith))
+    let t = not-true (c .before .enter .result) (c .if1 .taken) in
+    (filled-rest _ _ _ _ (kept-out (c .before) t), (ne-eqb (c .before .before .before .before .before .before .before .loop .i) (c .before .before .before .before .before .before .before .before .args .size) (λ e. omega (arith, e)) ∙ sym (clashes (c .before) t), omega arith))
 
 add-i : tie.Need-add-i Inv-loop μ-loop
 add-i c = omega (arith, c .before .before .before .before .before .before .before .before .pre .0 .size-most)
@@ -81,14 +76,14 @@ loop-less : tie.Need-loop-less Inv-loop μ-loop
 loop-less c = omega arith
 
 loop-again : tie.Need-loop-again Inv-loop μ-loop
-loop-again c = (omega arith, entered (c .before) (is-so (c .before .enter .result) (c .if1 .left)))
+loop-again c = (omega arith, entered (c .before) (not-false (c .before .enter .result) (c .if1 .left)))
 
 returns-2 : tie.Need-returns-2 Inv-loop μ-loop
 returns-2 c =
     let l = c .before .loop in
     let e : l .i ≡ c .before .before .args .size = omega arith in
     let f = rw e at (l .inv .1) in
-    (f, (eq-eqb (c .before .before .args .size) (c .before .before .args .size) refl ∙ sym (filled-agrees (slotAt (c .before .before .args .shift) (c .before .before .args .multiplier) (c .before .before .args .questions .now)) (valueAt (c .before .before .args .answers .now)) (c .before .before .args .size) (l .trial) f), omega arith))
+    (filled-rest _ _ _ _ f, (eq-eqb (c .before .before .args .size) (c .before .before .args .size) refl ∙ sym (filled-agrees (slotAt (c .before .before .args .shift) (c .before .before .args .multiplier) (c .before .before .args .questions .now)) (valueAt (c .before .before .args .answers .now)) (c .before .before .args .size) (l .trial) f), omega arith))
 
 pub fill-spec : {M : Type 1} → statement M
 fill-spec =

@@ -1,7 +1,7 @@
 -- `candidates::first_passing` meets its contract: before turn i the generator stands at candidate i, and none before it
 -- passes.
 use Prim.Native.Nat.{ℕ, _+_, _-_, _≤_, _<_}
-use mathlib.Core.Path.{_≡_, sym, ap, _∙_}
+use mathlib.Core.Path.{_≡_, sym, ap, ap₂, _∙_}
 use mathlib.Core.Bool.{Bool, false}
 use native.Mathlib.Nat.{not-suc-le-zero}
 use native.Mathlib.Omega.{arith}
@@ -10,8 +10,9 @@ use borrow.Author.Needs.{needs}
 use Rattle.splitmix.specs.declared.Drawn.{Drawn}
 use Rattle.splitmix.specs.SplitMix.{after, candidateOf, stateAt, candidate}
 use Rattle.splitmix.proofs.Candidates.{state-first, state-next, candidate-is}
+use Rattle.packing.specs.declared.Choice.the-variants.{Chosen}
+use Rattle.packing.proofs.Choices.{taken-first, taken-none}
 use Rattle.candidates.specs.Trial.{Empty, passing}
-use Rattle.candidates.proofs.First.{taken-first, taken-none}
 use Rattle.candidates.proofs.first_passing.Statement.{statement}
 use Rattle.candidates.proofs.first_passing.Tie as tie
 
@@ -46,8 +47,9 @@ returns : tie.Need-returns Inv-loop μ-loop
 returns c =
     let s = c .before .before .before .before .before .before .args in
     let l = c .before .before .before .before .before .loop in
-    taken-first (candidate (s .seed)) (s .budget) (λ (i : ℕ). passing (s .mask) (s .size) (s .shift) (s .questions .now) (s .answers .now) (candidate (s .seed) i)) (l .i) (c .before .before .before .draw .result .candidate)
-    (omega arith) (drawn-is (c .before)) (passed-is (c .before) ∙ c .if1 .taken) (l .inv .3)
+    ap Chosen (ap₂ (λ (m n : ℕ). record { multiplier = m; count = n }) (drawn-is (c .before)) (omega arith))
+    ∙ sym (taken-first (candidate (s .seed)) (s .budget) (λ (i : ℕ). passing (s .mask) (s .size) (s .shift) (s .questions .now) (s .answers .now) (candidate (s .seed) i)) (l .i)
+    (omega arith) (passed-is (c .before) ∙ c .if1 .taken) (l .inv .3))
 
 add-i : tie.Need-add-i Inv-loop μ-loop
 add-i c = search needs
@@ -76,7 +78,7 @@ returns-2 : tie.Need-returns-2 Inv-loop μ-loop
 returns-2 c =
     let s = c .before .before .args in
     let l = c .before .loop in
-    taken-none (candidate (s .seed)) (s .budget) (λ (i : ℕ). passing (s .mask) (s .size) (s .shift) (s .questions .now) (s .answers .now) (candidate (s .seed) i)) (λ j h. l .inv .3 j (omega arith))
+    sym (taken-none (candidate (s .seed)) (s .budget) (λ (i : ℕ). passing (s .mask) (s .size) (s .shift) (s .questions .now) (s .answers .now) (candidate (s .seed) i)) (λ j h. l .inv .3 j (omega arith)))
 
 pub first-passing-spec : {M : Type 1} → statement M
 first-passing-spec =

@@ -10,7 +10,8 @@ use lib.Dec.{ltb}
 use lib.Pow.{pow-pos}
 use Rattle.bits.specs.Set.{count}
 use Rattle.bits.proofs.Count.{count-ones}
-use Rattle.candidates.specs.Trial.{agree, slotAt, valueAt, passing}
+use Rattle.packing.specs.Pack.{agree}
+use Rattle.candidates.specs.Trial.{slotAt, valueAt, passing}
 use Rattle.candidates.proofs.passes.Statement.{statement}
 use Rattle.candidates.proofs.passes.Tie as tie
 

@@ -1,5 +1,5 @@
 -- `candidates::questions_and_answers` meets its contract: before turn i the first i of each stand at the front.
-use Prim.Native.Nat.{ℕ, _+_, _-_, _≤_}
+use Prim.Native.Nat.{_-_, _≤_}
 use mathlib.Core.Path.{_≡_, refl, ap, _∙_}
 use native.Mathlib.Omega.{arith}
 use borrow.Author.Needs.{needs}
@@ -74,7 +74,7 @@ returns : tie.Need-returns Inv-loop μ-loop
 returns c =
     let l = c .before .loop in
     let e : l .i ≡ real .size (c .before .before .before .args .block) = omega (arith, c .before .before .size-at .ensures) in
-    record { questions-long = l .inv .1; answers-long = l .inv .2; questions-are = rw e at (l .inv .3); answers-are = rw e at (l .inv .4) }
+    record { questions-are = rw e at (l .inv .3); answers-are = rw e at (l .inv .4) }
 
 pub questions-and-answers-spec : {M : Type 1} → statement M
 questions-and-answers-spec =

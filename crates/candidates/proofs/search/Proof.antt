@@ -1,6 +1,6 @@
 -- `candidates::search` meets its contract, by the block.
 use Prim.Native.Nat.{ℕ}
-use mathlib.Core.Path.{_≡_, sym, ap, _∙_}
+use mathlib.Core.Path.{sym, ap, _∙_}
 use borrow.Author.Needs.{needs}
 use Rattle.refusal.specs.Paper.{Said, gives, said, andThen}
 use Rattle.board.specs.Blocks.{blockOf}

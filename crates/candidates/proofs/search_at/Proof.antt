@@ -1,6 +1,6 @@
 -- `candidates::search_at` meets its contract: the arrays are the block's.
 use Prim.Native.Nat.{ℕ}
-use mathlib.Core.Path.{_≡_, ap, _∙_, fun-ext}
+use mathlib.Core.Path.{ap, _∙_, fun-ext}
 use mathlib.Core.Bool.{Bool}
 use borrow.Author.Needs.{needs}
 use Rattle.bits.specs.Set.{least}

@@ -1,23 +1,21 @@
 -- `candidates::wipe` meets its contract: before turn i only slots of later questions may hold a walk.
-use Prim.Native.Nat.{ℕ, _+_, _-_, _≤_}
-use mathlib.Core.Path.{_≡_, _∙_}
+use Prim.Native.Nat.{_-_, _≤_}
+use mathlib.Core.Path.{_≡_}
 use native.Mathlib.Omega.{arith}
 use borrow.Author.Needs.{needs}
-use lib.ListN.{length, length-set}
-use Rattle.candidates.specs.Trial.{slotAt, valueAt}
-use Rattle.candidates.proofs.Trials.{Rest, rest-all, rest-less, rest-none}
+use Rattle.candidates.specs.Trial.{Rest, slotAt}
+use Rattle.candidates.proofs.Trials.{rest-less, rest-none}
 use Rattle.candidates.proofs.wipe.Statement.{statement}
 use Rattle.candidates.proofs.wipe.Tie as tie
 
 abbrev Inv-loop : tie.InvT-loop
-Inv-loop multiplier n shift questions answers trial₀ i₀ trial i =
-    (i ≤ n) × (length trial ≡ 4096) × Rest (slotAt shift multiplier questions) (valueAt answers) i n trial
+Inv-loop multiplier n shift questions trial₀ i₀ trial i = (i ≤ n) × Rest (slotAt shift multiplier questions) i n trial
 
 abbrev μ-loop : tie.MeasureT-loop
-μ-loop multiplier n shift questions answers trial₀ i₀ trial i = n - i
+μ-loop multiplier n shift questions trial₀ i₀ trial i = n - i
 
 loop-holds : tie.Need-loop-holds Inv-loop μ-loop
-loop-holds c = (omega arith, c .pre .1 .long, rest-all (slotAt (c .args .shift) (c .args .multiplier) (c .args .questions .now)) (valueAt (c .args .answers .now)) (c .args .n) (c .args .trial .now) (c .pre .1))
+loop-holds c = (omega arith, c .pre .1)
 
 mul-slot : tie.Need-mul-slot Inv-loop μ-loop
 mul-slot c = omega arith
@@ -48,19 +46,14 @@ loop-again : tie.Need-loop-again Inv-loop μ-loop
 loop-again c =
     let l = c .before .before .before .loop in
     let a = c .before .before .before .before .args in
-    let slots = slotAt (a .shift) (a .multiplier) (a .questions .now) in (
-      omega arith,
-      length-set (l .trial) (c .slot .result) 0 ∙ l .inv .1,
-      rest-less slots (valueAt (a .answers .now)) (l .i) (a .n) (c .slot .result) (l .trial) (at-slot c) (omega arith) (l .inv .2),
-    )
+    (omega arith, rest-less (slotAt (a .shift) (a .multiplier) (a .questions .now)) (l .i) (a .n) (c .slot .result) (l .trial) (at-slot c) (c .slot .ensures .1) (l .inv .1))
 
 returns : tie.Need-returns Inv-loop μ-loop
 returns c =
     let l = c .before .loop in
     let a = c .before .before .args in
-    let slots = slotAt (a .shift) (a .multiplier) (a .questions .now) in
     let e : l .i ≡ a .n = omega arith in
-    rest-none slots (valueAt (a .answers .now)) (a .n) (l .trial) (l .inv .1) (rw e at (l .inv .2))
+    rest-none (slotAt (a .shift) (a .multiplier) (a .questions .now)) (a .n) (l .trial) (rw e at (l .inv .1))
 
 pub wipe-spec : {M : Type 1} → statement M
 wipe-spec =
