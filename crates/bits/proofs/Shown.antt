@@ -25,6 +25,10 @@ unfolding shown
 length-shown zero f = refl
 length-shown (suc n) f = ap suc (length-shown n (λ i. f (suc i)))
 
+take-zero {ℓ} : {A : Type ℓ} (l : List A) → take 0 l ≡ []
+take-zero [] = refl
+take-zero (x ∷ l) = refl
+
 -- ---- a loop that stores f 0, f 1, .. in turn
 
 shown-more : (n : ℕ) (f : ℕ → ℕ) → shown (suc n) f ≡ shown n f ++ (f n ∷ [])
@@ -45,6 +49,13 @@ unfolding shown
 getD-shown zero i f d h = absurd (not-suc-le-zero h)
 getD-shown (suc n) zero f d h = refl
 getD-shown (suc n) (suc i) f d h = getD-shown n i (λ j. f (suc j)) d (le-of-suc-le-suc h)
+
+-- the first values of more
+pub take-shown {ℓ} : {A : Type ℓ} (n m : ℕ) (f : ℕ → A) → n ≤ m → take n (shown m f) ≡ shown n f
+unfolding shown
+take-shown zero m f h = take-zero (shown m f)
+take-shown (suc n) zero f h = absurd (not-suc-le-zero h)
+take-shown (suc n) (suc m) f h = ap (λ l. f zero ∷ l) (take-shown n m (λ i. f (suc i)) (le-of-suc-le-suc h))
 
 -- a list of n is shown by what stands at each place
 pub shown-list {ℓ} : {A : Type ℓ} (n : ℕ) (l : List A) (d : A) (f : ℕ → A) → length l ≡ n → ((i : ℕ) → i < n → getD l i d ≡ f i) → l ≡ shown n f

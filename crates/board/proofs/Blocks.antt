@@ -29,6 +29,11 @@ pub square-lt : (b : ℕ) → squareOf b < 64
 unfolding squareOf
 square-lt b = omega arith
 
+pub block-lt : (k s : ℕ) → k < 2 → s < 64 → blockOf k s < 128
+unfolding blockOf
+block-lt zero s hk hs = omega arith
+block-lt (suc k) s hk hs = omega arith
+
 pub kind-block : (k s : ℕ) → k < 2 → s < 64 → kindOf (blockOf k s) ≡ k
 unfolding blockOf kindOf
 kind-block zero s hk hs = omega arith

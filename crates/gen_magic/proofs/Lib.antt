@@ -3,3 +3,4 @@ pub mod Turns
 pub mod Sofar
 pub mod Placing
 pub mod Answers
+pub mod Came

@@ -1,2 +1,4 @@
 pub mod LookUps
 pub mod Audits
+pub mod Accepts
+pub mod Attacks

@@ -1,5 +1,6 @@
 -- The audit. 01, "Look-ups and audit": "The audit takes any 128 records and any table."
-use Prim.Native.Nat.{ℕ, zero, suc, _+_}
+use Prim.Native.Nat.{ℕ, zero, suc, _+_, _<_}
+use mathlib.Core.Path.{_≡_}
 use mathlib.Core.Bool.{Bool, true, false, _&&_}
 use mathlib.Core.List.{List, [], _∷_}
 use lib.Dec.{eqb}
@@ -55,3 +56,11 @@ auditSays records table = andThen (blocksSay records table) (λ _. gives (reachO
 abbrev pub checked : Check → Said Unit
 checked Holds = gives tt
 checked (Fails r) = refused r
+
+-- ---- what acceptance stands for
+
+-- "all hold": each record has its block's mask and shift, and each subset's look-up is the walk
+pub record AllHold (records : List Record) (table : List ℕ) : Type 0 where
+  pub own-mask : (b : ℕ) → b < 128 → getD records b noRecord .mask ≡ mask (kindOf b) (squareOf b)
+  pub own-shift : (b : ℕ) → b < 128 → getD records b noRecord .shift ≡ shiftOf (kindOf b) (squareOf b)
+  pub reads : (b i : ℕ) → b < 128 → i < real .size b → lookUp (kindOf b) (squareOf b) (subset (kindOf b) (squareOf b) i) (getD records b noRecord) table ≡ gives (real .walk b i)

@@ -1,14 +1,12 @@
 -- The examples hold: computed from the definitions.
 -- Assumes nothing.
-use Prim.Native.Nat.{_+_}
-use mathlib.Core.Path.{_≡_, refl, ap, _∙_}
+use mathlib.Core.Path.{_≡_, refl, _∙_}
 use lib.Dec.{lit<}
-use Rattle.bits.specs.Intel.{pext, pextTurns, setBit}
-use Rattle.bits.specs.Set.{has}
+use Rattle.bits.specs.Intel.{pext}
 use Rattle.bits.specs.Shown.{sum}
 use Rattle.board.specs.Board.{rays, mask, attack}
 use Rattle.board.specs.Blocks.{sizeOf, subset}
-use Rattle.bmis.specs.Bmis.{sizeAt, offsetOf, entry, entriesTo}
+use Rattle.bmis.specs.Bmis.{sizeAt, offsetOf, entry}
 use Rattle.bmis.proofs.Entries.{entry-is}
 use Rattle.promises.specs.Examples.{All, table}
 

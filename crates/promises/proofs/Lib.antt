@@ -1,1 +1,4 @@
 pub mod Examples
+pub mod Demand1
+pub mod Demand2
+pub mod Demand3

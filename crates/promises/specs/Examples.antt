@@ -1,5 +1,5 @@
 -- 01, "Board examples": "P marks those proved from the definitions, as entries of one table under a single statement."
-use Prim.Native.Nat.{ℕ, _+_, _-_, _^_}
+use Prim.Native.Nat.{_+_, _-_, _^_}
 use mathlib.Core.Path.{_≡_}
 use mathlib.Core.List.{List, [], _∷_}
 use lib.ListN.{getD}

@@ -1,0 +1,60 @@
+-- Demand 1.
+-- Assumes nothing.
+use Prim.Native.Nat.{ℕ, _≤_, _<_}
+use mathlib.Core.Path.{_≡_, refl, ap, _∙_}
+use mathlib.Core.Bool.{not}
+use mathlib.Core.List.{List, _∷_, []}
+use mathlib.Core.Logic.{_⊎_, inl, inr}
+use borrow.Author.Tests.{lt-ltb, le-ltb, eq-eqb, ne-eqb}
+use lib.ListN.{length, replicate}
+use Rattle.splitmix.specs.SplitMix.{candidate}
+use Rattle.packing.specs.declared.Choice.{Choice}
+use Rattle.packing.specs.Pack.{Outcome, done, refused, run, bySearch, byLent, seedBuild, lentBuild}
+use Rattle.packing.proofs.Run.{stopped}
+use Rattle.packing.proofs.Refusals.{room-or-spent, room-or-collides}
+use Rattle.blocks.specs.Real.{real}
+use Rattle.gen_magic.specs.Builds.{slots, Left, empty, ended, fromSeed, fromLent}
+use Rattle.gen_magic.proofs.Answers.{kept, passed}
+use Rattle.gen_magic.proofs.Came.{seed-is, lent-is}
+use Rattle.promises.specs.Demands.{Succeeds, Demand1}
+
+budget-refused : (seed budget : ℕ) (table marks : List ℕ) → 16777216 < budget → fromSeed seed budget table marks ≡ empty 10 [] table marks
+unfolding fromSeed
+budget-refused seed budget table marks h = kept 10 table marks _ _ (lt-ltb 16777216 budget h)
+
+lengths-refused : (seed budget : ℕ) (table marks : List ℕ) → budget ≤ 16777216 → (length table ≡ length marks → ⊥) → fromSeed seed budget table marks ≡ empty 3 [] table marks
+unfolding fromSeed
+lengths-refused seed budget table marks h f = passed 10 table marks _ _ (le-ltb 16777216 budget h) ∙ kept 3 table marks _ _ (ap not (ne-eqb (length table) (length marks) f))
+
+list-refused : (multipliers table marks : List ℕ) → (length multipliers ≡ 128 → ⊥) → fromLent multipliers table marks ≡ empty 9 [] table marks
+unfolding fromLent
+list-refused multipliers table marks f = kept 9 table marks _ _ (ap not (ne-eqb (length multipliers) 128 f))
+
+lent-lengths-refused : (multipliers table marks : List ℕ) → length multipliers ≡ 128 → (length table ≡ length marks → ⊥) → fromLent multipliers table marks ≡ empty 3 [] table marks
+unfolding fromLent
+lent-lengths-refused multipliers table marks h f = passed 9 table marks _ _ (ap not (eq-eqb (length multipliers) 128 h)) ∙ kept 3 table marks _ _ (ap not (ne-eqb (length table) (length marks) f))
+
+-- what an outcome leaves
+on-the-way : (left : Left) (len other : ℕ) (o : Outcome) → left ≡ ended len o → ((n b : ℕ) → o ≡ refused n b → ((n ≡ 4) ⊎ (n ≡ other)) × (b < 128))
+    → Succeeds left ⊎ ((number : ℕ) × (block : ℕ) × ((number ≡ 4) ⊎ (number ≡ other)) × (block < 128) × (left ≡ empty number (block ∷ []) (replicate len 0) (replicate len 0)))
+on-the-way left len other (done s) e h = inl (ap (λ (l : Left). l .says) e)
+on-the-way left len other (refused n b) e h = inr (n, b, h n b refl .0, h n b refl .1, e)
+
+block-low : (len why : ℕ) (choice : ℕ → Choice) (n b : ℕ) → run real len why choice 128 ≡ refused n b → b < 128
+block-low len why choice n b e = stopped real len why choice 128 n b e .0
+
+pub demand-1 : Demand1
+unfolding seedBuild lentBuild
+demand-1 =
+    record {
+      budget-refused = budget-refused;
+      lengths-refused = lengths-refused;
+      list-refused = list-refused;
+      lent-lengths-refused = lent-lengths-refused;
+      on-the-way = λ seed budget table marks a.
+          on-the-way (fromSeed seed budget table marks) (length table) 5 (seedBuild real (candidate seed) budget (length table)) (seed-is seed budget table marks (a .budget-allowed) (a .one-length))
+          (λ n b e. (room-or-spent real (candidate seed) budget (length table) b n e, block-low (length table) 5 (bySearch real (candidate seed) budget) n b e));
+      lent-on-the-way = λ multipliers table marks h e.
+          on-the-way (fromLent multipliers table marks) (length table) 6 (lentBuild real (slots multipliers) (length table)) (lent-is multipliers table marks h e)
+          (λ n b e. (room-or-collides real (slots multipliers) (length table) b n e, block-low (length table) 6 (byLent real (slots multipliers)) n b e));
+    }

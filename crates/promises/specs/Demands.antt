@@ -1,0 +1,103 @@
+-- The three demands, in their own words, over the definitions that the public functions' contracts use.
+use Prim.Native.Nat.{ℕ, _^_, _≤_, _<_}
+use mathlib.Core.Path.{_≡_}
+use mathlib.Core.List.{List, [], _∷_}
+use mathlib.Core.Logic.{_⊎_, _↔_}
+use lib.ListN.{length, getD, take, replicate}
+use Rattle.refusal.specs.Paper.{gives, refuses}
+use Rattle.board.specs.Board.{attack}
+use Rattle.board.specs.Blocks.{blockOf}
+use Rattle.board.specs.Walk.{walk}
+use Rattle.board.specs.Crate.{answer}
+use Rattle.bmis.specs.Bmis as Bmis
+use Rattle.splitmix.specs.SplitMix.{candidate}
+use Rattle.packing.specs.Pack.{done}
+use Rattle.packing.specs.Promised.{after, takenBy, EachFirst, largest}
+use Rattle.blocks.specs.Real.{real}
+use Rattle.gen_magic.specs.Builds.{slots, noRecord, Left, empty, ended, fromSeed, fromLent}
+use Rattle.magic.specs.LookUp.{lookUp}
+
+-- a build succeeded
+abbrev pub Succeeds : Left → Type 0
+Succeeds left = left .says ≡ gives tt
+
+-- the arguments of a build from a seed are not refused
+pub record Allowed (budget : ℕ) (table marks : List ℕ) : Type 0 where
+  pub budget-allowed : budget ≤ 16777216
+  pub one-length : length table ≡ length marks
+
+-- ---- demand 1
+
+-- "Bad arguments are refused by number and change nothing. A build refused on the way leaves table, marks and records all
+-- zero." That any numbers and lengths are taken and every call ends is in what a proof of a function is: none has a
+-- demand on its caller
+pub record Demand1 : Type 0 where
+  pub budget-refused : (seed budget : ℕ) (table marks : List ℕ) → 16777216 < budget → fromSeed seed budget table marks ≡ empty 10 [] table marks
+  pub lengths-refused : (seed budget : ℕ) (table marks : List ℕ) → budget ≤ 16777216 → (length table ≡ length marks → ⊥) → fromSeed seed budget table marks ≡ empty 3 [] table marks
+  pub list-refused : (multipliers table marks : List ℕ) → (length multipliers ≡ 128 → ⊥) → fromLent multipliers table marks ≡ empty 9 [] table marks
+  pub lent-lengths-refused : (multipliers table marks : List ℕ) → length multipliers ≡ 128 → (length table ≡ length marks → ⊥) → fromLent multipliers table marks ≡ empty 3 [] table marks
+  pub on-the-way : (seed budget : ℕ) (table marks : List ℕ) → Allowed budget table marks
+      → Succeeds (fromSeed seed budget table marks)
+      ⊎ ((number : ℕ) × (block : ℕ) × ((number ≡ 4) ⊎ (number ≡ 5)) × (block < 128)
+      × (fromSeed seed budget table marks ≡ empty number (block ∷ []) (replicate (length table) 0) (replicate (length table) 0)))
+  pub lent-on-the-way : (multipliers table marks : List ℕ) → length multipliers ≡ 128 → length table ≡ length marks
+      → Succeeds (fromLent multipliers table marks)
+      ⊎ ((number : ℕ) × (block : ℕ) × ((number ≡ 4) ⊎ (number ≡ 6)) × (block < 128)
+      × (fromLent multipliers table marks ≡ empty number (block ∷ []) (replicate (length table) 0) (replicate (length table) 0)))
+
+-- ---- demand 2
+
+-- the look-up with a block's own record, in what a build left
+abbrev pub LooksUp : Left → ℕ → ℕ → ℕ → Type 0
+LooksUp left kind sq blockers = lookUp kind sq blockers (getD (left .records) (blockOf kind sq) noRecord) (left .table) ≡ gives (attack kind sq blockers)
+
+-- "For each square, rook or bishop, and any 64 blocker bits, ray walk, look-up in a filled PEXT table and look-up in a
+-- built magic table give the attack set of FIDE Laws 3.2, 3.3 and 3.5, first blocker included, and equal the crate's."
+pub record OneAnswer (kind sq blockers : ℕ) : Type 0 where
+  pub by-walk : walk kind sq blockers ≡ attack kind sq blockers
+  pub by-pext : (old : List ℕ) → length old ≡ 107648 → Bmis.lookUp kind sq blockers (Bmis.filled old) ≡ attack kind sq blockers
+  pub by-seed : (seed budget : ℕ) (table marks : List ℕ) → Succeeds (fromSeed seed budget table marks) → LooksUp (fromSeed seed budget table marks) kind sq blockers
+  pub by-lent : (multipliers table marks : List ℕ) → Succeeds (fromLent multipliers table marks) → LooksUp (fromLent multipliers table marks) kind sq blockers
+  pub by-crate : answer kind sq blockers ≡ attack kind sq blockers
+
+pub record Demand2 : Type 0 where
+  pub one-answer : (kind sq blockers : ℕ) → kind < 2 → sq < 64 → blockers < 2 ^ 64 → OneAnswer kind sq blockers
+  -- "A build from a seed, its arguments not refused, succeeds exactly when each block, in the fixed order, fits at its first
+  -- free place and has a passing candidate within the budget"
+  pub succeeds-exactly : (seed budget : ℕ) (table marks : List ℕ) → Allowed budget table marks
+      → Succeeds (fromSeed seed budget table marks) ↔ ((position : ℕ → ℕ) × EachFirst real (candidate seed) budget (length table) position 128)
+  -- "it takes the first": all that is handed back and left is that of these places and positions
+  pub takes-first : (seed budget : ℕ) (table marks : List ℕ) → Allowed budget table marks → (position : ℕ → ℕ) → EachFirst real (candidate seed) budget (length table) position 128
+      → fromSeed seed budget table marks ≡ ended (length table) (done (after real (takenBy (candidate seed) position) 128))
+
+-- ---- demand 3
+
+-- "the same records, attempt counts and used slots, and zeros after them"
+pub record Same (one other : Left) : Type 0 where
+  pub records : other .records ≡ one .records
+  pub counts : other .counts ≡ one .counts
+  pub used : other .used ≡ one .used
+  pub table-used : take (one .used) (other .table) ≡ take (one .used) (one .table)
+  pub marks-used : take (one .used) (other .marks) ≡ take (one .used) (one .marks)
+  pub table-after : (j : ℕ) → one .used ≤ j → slots (other .table) j ≡ 0
+  pub marks-after : (j : ℕ) → one .used ≤ j → slots (other .marks) j ≡ 0
+
+-- "note its largest attempt count"
+abbrev pub largestCount : Left → ℕ
+largestCount left = largest 128 (slots (left .counts))
+
+pub record Demand3 : Type 0 where
+  -- "If one build from a seed succeeds, .. A build from that seed then succeeds exactly when its budget is allowed and reaches
+  -- the first, and table and marks have one length that reaches the second"
+  pub decides : (seed budget : ℕ) (table marks : List ℕ) → Succeeds (fromSeed seed budget table marks)
+      → (budget′ : ℕ) (table′ marks′ : List ℕ)
+      → Succeeds (fromSeed seed budget′ table′ marks′)
+      ↔ (Allowed budget′ table′ marks′ × (largestCount (fromSeed seed budget table marks) ≤ budget′) × (fromSeed seed budget table marks .used ≤ length table′))
+  -- "always with the same .., whatever the memory held before"
+  pub always-same : (seed budget budget′ : ℕ) (table marks table′ marks′ : List ℕ) → Succeeds (fromSeed seed budget table marks) → Succeeds (fromSeed seed budget′ table′ marks′) → Same (fromSeed seed budget table marks) (fromSeed seed budget′ table′ marks′)
+  -- "From any seed, a refusal for room stands at its block under any larger allowed budget"
+  pub room-stands : (seed budget budget′ block : ℕ) (table marks table′ marks′ : List ℕ) → budget ≤ budget′ → Allowed budget′ table′ marks′ → length table′ ≡ length table
+      → fromSeed seed budget table marks .says ≡ refuses 4 (block ∷ []) → fromSeed seed budget′ table′ marks′ .says ≡ refuses 4 (block ∷ [])
+  -- "one for candidates stands at its block with any more room, the same for table and marks"
+  pub spent-stands : (seed budget block : ℕ) (table marks table′ marks′ : List ℕ) → length table ≤ length table′ → length table′ ≡ length marks′
+      → fromSeed seed budget table marks .says ≡ refuses 5 (block ∷ []) → fromSeed seed budget table′ marks′ .says ≡ refuses 5 (block ∷ [])
