@@ -1,9 +1,18 @@
 -- The builds of the board's blocks, for any candidates and any lent multipliers: the numbers that 01 names.
 -- Assumes nothing.
-use Prim.Native.Nat.{ℕ, _^_, _≤_, _<_}
-use mathlib.Core.Path.{_≡_}
+use Prim.Native.Nat.{ℕ, _+_, _^_, _≤_, _<_, zero-le}
+use mathlib.Core.Path.{_≡_, refl, ap, _∙_}
+use mathlib.Core.Logic.{_⊎_, inl, inr}
+use native.Mathlib.Nat.{not-suc-le-zero, zero-add}
 use native.Mathlib.Omega.{arith}
-use Rattle.packing.specs.Pack.{State, done, refused, seedBuild, lentBuild}
+use lib.Bits.{bitAnd, and-zero-l, or-zero-l}
+use Rattle.board.specs.Board.{rays}
+use Rattle.board.specs.Blocks.{kindOf, squareOf}
+use Rattle.packing.specs.declared.Taken.{Taken}
+use Rattle.packing.specs.Pack.{State, start, place, hit, next, done, refused, seedBuild, lentBuild}
+use Rattle.packing.proofs.Slots.{Hit, Missed, hits, or-missed, or-hit}
+use Rattle.packing.proofs.Places.{place-first, one-place}
+use Rattle.packing.proofs.Next.{place-le}
 use Rattle.packing.specs.Promised.{Right}
 use Rattle.packing.proofs.Seed.{first-room, first-spent}
 use Rattle.packing.proofs.Refusals.{never-room, lent-never-room}
@@ -54,3 +63,27 @@ spent-64 candidate = first-spent real candidate 64 (rw first-size (omega arith))
 -- "0 slots, budget 0: 4."
 pub room-0 : (candidate : ℕ → ℕ) → seedBuild real candidate 0 0 ≡ refused 4 0
 room-0 candidate = first-room real candidate 0 0 (rw first-size (omega arith))
+
+-- ---- "Bishop B1 is placed at 0 on top of bishop A1: opposite colours."
+
+apart : bitAnd (real .rays 0) (real .rays 1) ≡ 0
+unfolding rays kindOf squareOf
+apart = refl
+
+pub first-place : place real 0 start ≡ 0
+first-place = omega (arith, place-le real 0 start)
+
+pub second-place : (x : Taken) → place real 1 (next real 0 start x) ≡ 0
+unfolding next
+second-place x =
+    one-place (real .size 1) (real .rays 1) (next real 0 start x .marks) (next real 0 start x .end) _ 0 (place-first real 1 (next real 0 start x))
+    (record { most = zero-le; apart = λ _ j _. free j; none-before = λ i l. absurd (not-suc-le-zero l) })
+  where
+    marked : (j : ℕ) → Hit (hit real 0 start (x .multiplier)) (real .size 0) j ⊎ Missed (hit real 0 start (x .multiplier)) (real .size 0) j → bitAnd (next real 0 start x .marks j) (real .rays 1) ≡ 0
+    marked j (inl h) =
+        ap (λ (m : ℕ). bitAnd m (real .rays 1)) (or-hit (hit real 0 start (x .multiplier)) (λ _. real .rays 0) j 0 (real .rays 0) (real .size 0) (λ _ _ _. refl) h ∙ or-zero-l (real .rays 0))
+        ∙ apart
+    marked j (inr m) = ap (λ (m : ℕ). bitAnd m (real .rays 1)) (or-missed (hit real 0 start (x .multiplier)) (λ _. real .rays 0) j 0 (real .size 0) m) ∙ and-zero-l (real .rays 1)
+
+    free : (j : ℕ) → bitAnd (next real 0 start x .marks (0 + j)) (real .rays 1) ≡ 0
+    free j = ap (λ (k : ℕ). bitAnd (next real 0 start x .marks k) (real .rays 1)) (zero-add j) ∙ marked j (hits (hit real 0 start (x .multiplier)) (real .size 0) j)

@@ -4,6 +4,7 @@ use Prim.Native.Nat.{ℕ, _≤_}
 use mathlib.Core.Path.{_≡_, refl, sym, ap, _∙_}
 use mathlib.Core.Bool.{Bool, true, false, not}
 use mathlib.Core.List.{List, [], _∷_}
+use native.Mathlib.Omega.{arith}
 use borrow.Author.Tests.{ltb-false, le-ltb, eqb-true, eq-eqb, not-false}
 use lib.Dec.{eqb, ltb}
 use lib.ListN.{length}
@@ -98,3 +99,18 @@ lent-success multipliers table marks e =
     let i = lent-is multipliers table marks (a .0) (a .1) in
     let d = says-done (length table) _ (ap (λ (l : Left). l .says) (sym i) ∙ e) in
     record { state = d .state; is = d .is; left = i ∙ ap (ended (length table)) (d .is) }
+
+-- ---- a refusal with a block, which is none of an argument
+
+bare : {n b m : ℕ} → _≡_ {A = Said Unit} (refuses n (b ∷ [])) (refuses m []) → ⊥
+bare q = let z : _≡_ {A = ℕ} 0 1 = cc in omega arith
+
+pub seed-refused : (seed budget n b : ℕ) (table marks : List ℕ) → fromSeed seed budget table marks .says ≡ refuses n (b ∷ []) → (budget ≤ 16777216) × (length table ≡ length marks) × (seedBuild real (candidate seed) budget (length table) ≡ refused n b)
+seed-refused seed budget n b table marks e =
+    let a = seed-allowed seed budget table marks (λ q. bare (sym e ∙ q), λ q. bare (sym e ∙ q)) in
+    (a .0, a .1, says-refused (length table) _ n b (ap (λ (l : Left). l .says) (sym (seed-is seed budget table marks (a .0) (a .1))) ∙ e))
+
+pub lent-refused : (n b : ℕ) (multipliers table marks : List ℕ) → fromLent multipliers table marks .says ≡ refuses n (b ∷ []) → lentBuild real (slots multipliers) (length table) ≡ refused n b
+lent-refused n b multipliers table marks e =
+    let a = lent-allowed multipliers table marks (λ q. bare (sym e ∙ q), λ q. bare (sym e ∙ q)) in
+    says-refused (length table) _ n b (ap (λ (l : Left). l .says) (sym (lent-is multipliers table marks (a .0) (a .1))) ∙ e)

@@ -7,7 +7,7 @@ use mathlib.Core.Logic.{_↔_}
 use native.Mathlib.Omega.{arith}
 use native.Mathlib.Decide.{decLt}
 use lib.ListN.{length, take, List·getD-eq-default}
-use Rattle.refusal.specs.Paper.{Said, refuses}
+use Rattle.refusal.specs.Paper.{refuses}
 use Rattle.bits.specs.Shown.{shown}
 use Rattle.bits.proofs.Shown.{length-shown, getD-shown, take-shown}
 use Rattle.splitmix.specs.SplitMix.{candidate}
@@ -19,7 +19,7 @@ use Rattle.packing.proofs.Seed.{one-success, needs-budget, needs-room, enough, 
 use Rattle.blocks.specs.Real.{real}
 use Rattle.blocks.proofs.Real.{laws}
 use Rattle.gen_magic.specs.Builds.{slots, Left, ended, fromSeed}
-use Rattle.gen_magic.proofs.Came.{seed-is, seed-allowed, SeedSuccess, seed-success, says-refused}
+use Rattle.gen_magic.proofs.Came.{seed-is, SeedSuccess, seed-success, seed-refused}
 use Rattle.promises.specs.Demands.{Succeeds, Allowed, Same, largestCount, Demand3}
 
 -- ---- what one state leaves in two lengths
@@ -89,15 +89,6 @@ module _ (seed budget : ℕ) (table marks : List ℕ) (d : SeedSuccess seed budg
 
 -- ---- refusals that stand
 
--- a refusal with a block is none of an argument
-refused-build : (seed budget n b : ℕ) (table marks : List ℕ) → fromSeed seed budget table marks .says ≡ refuses n (b ∷ []) → (budget ≤ 16777216) × (length table ≡ length marks) × (seedBuild real (candidate seed) budget (length table) ≡ refused n b)
-refused-build seed budget n b table marks e =
-    let a = seed-allowed seed budget table marks (λ q. bare (sym e ∙ q), λ q. bare (sym e ∙ q)) in
-    (a .0, a .1, says-refused (length table) _ n b (ap (λ (l : Left). l .says) (sym (seed-is seed budget table marks (a .0) (a .1))) ∙ e))
-  where
-    bare : {m : ℕ} → _≡_ {A = Said Unit} (refuses n (b ∷ [])) (refuses m []) → ⊥
-    bare q = let z : _≡_ {A = ℕ} 0 1 = cc in omega arith
-
 says-again : (seed budget n b : ℕ) (table marks : List ℕ) → budget ≤ 16777216 → length table ≡ length marks → seedBuild real (candidate seed) budget (length table) ≡ refused n b → fromSeed seed budget table marks .says ≡ refuses n (b ∷ [])
 says-again seed budget n b table marks h e q = ap (λ (l : Left). l .says) (seed-is seed budget table marks h e ∙ ap (ended (length table)) q)
 
@@ -107,10 +98,10 @@ demand-3 =
       decides = λ seed budget table marks e. decides seed budget table marks (seed-success seed budget table marks e);
       always-same = λ seed budget budget′ table marks table′ marks′ e e′. always-same seed budget table marks (seed-success seed budget table marks e) budget′ table′ marks′ (seed-success seed budget′ table′ marks′ e′);
       room-stands = λ seed budget budget′ block table marks table′ marks′ more a same-length e.
-          let r = refused-build seed budget 4 block table marks e in
+          let r = seed-refused seed budget 4 block table marks e in
           says-again seed budget′ 4 block table′ marks′ (a .budget-allowed) (a .one-length)
           (ap (seedBuild real (candidate seed) budget′) same-length ∙ room-stands real (candidate seed) budget budget′ (length table) block more (r .2));
       spent-stands = λ seed budget block table marks table′ marks′ more one e.
-          let r = refused-build seed budget 5 block table marks e in
+          let r = seed-refused seed budget 5 block table marks e in
           says-again seed budget 5 block table′ marks′ (r .0) one (spent-stands real (candidate seed) budget (length table) (length table′) block more (r .2));
     }

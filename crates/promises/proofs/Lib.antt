@@ -1,4 +1,6 @@
-pub mod Examples
 pub mod Demand1
 pub mod Demand2
 pub mod Demand3
+pub mod Audited
+pub mod BuildExamples
+pub mod Examples

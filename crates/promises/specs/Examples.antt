@@ -1,16 +1,23 @@
 -- 01, "Board examples": "P marks those proved from the definitions, as entries of one table under a single statement."
-use Prim.Native.Nat.{_+_, _-_, _^_}
+use Prim.Native.Nat.{ℕ, _+_, _-_, _^_, _≤_}
 use mathlib.Core.Path.{_≡_}
 use mathlib.Core.List.{List, [], _∷_}
-use lib.ListN.{getD}
+use lib.ListN.{length, getD}
+use Rattle.refusal.specs.Paper.{refuses}
 use Rattle.bits.specs.Intel.{pext}
 use Rattle.board.specs.Board.{rays, mask, attack}
 use Rattle.bmis.specs.Bmis.{offsetOf, entriesTo}
+use Rattle.gen_magic.specs.Builds.{noRecord, Left, fromSeed}
+use Rattle.promises.specs.Demands.{Succeeds}
 
 -- every entry holds
 abbrev pub All : List (Type 0) → Type 0
 All [] = Unit
 All (P ∷ l) = P × All l
+
+-- where a build put a block
+abbrev pub offsetAt : Left → ℕ → ℕ
+offsetAt left b = getD (left .records) b noRecord .offset
 
 abbrev pub table : List (Type 0)
 table =
@@ -37,4 +44,13 @@ table =
     ∷ (offsetOf 0 2 ≡ 6240)
     ∷ (offsetOf 0 63 ≡ 103488)
     ∷ (offsetOf 1 63 ≡ 107584)
+    -- 63 slots, any allowed budget: 4 at block 0. 64 slots, budget 0: 5 at block 0. 0 slots, budget 0: 4
+    ∷ ((seed budget : ℕ) (table marks : List ℕ) → budget ≤ 16777216 → length table ≡ 63 → length marks ≡ 63 → fromSeed seed budget table marks .says ≡ refuses 4 (0 ∷ []))
+    ∷ ((seed : ℕ) (table marks : List ℕ) → length table ≡ 64 → length marks ≡ 64 → fromSeed seed 0 table marks .says ≡ refuses 5 (0 ∷ []))
+    ∷ ((seed : ℕ) (table marks : List ℕ) → length table ≡ 0 → length marks ≡ 0 → fromSeed seed 0 table marks .says ≡ refuses 4 (0 ∷ []))
+    -- Bishop B1 is placed at 0 on top of bishop A1: opposite colours
+    ∷ ((seed budget : ℕ) (table marks : List ℕ) → Succeeds (fromSeed seed budget table marks) → (offsetAt (fromSeed seed budget table marks) 0 ≡ 0) × (offsetAt (fromSeed seed budget table marks) 1 ≡ 0))
+    -- Budget 16,777,216 is taken, 16,777,217 is 10
+    ∷ ((seed : ℕ) (table marks : List ℕ) → fromSeed seed 16777216 table marks .says ≡ refuses 10 [] → ⊥)
+    ∷ ((seed : ℕ) (table marks : List ℕ) → fromSeed seed 16777217 table marks .says ≡ refuses 10 [])
     ∷ []

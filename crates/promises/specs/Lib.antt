@@ -1,2 +1,3 @@
-pub mod Examples
 pub mod Demands
+pub mod Audited
+pub mod Examples

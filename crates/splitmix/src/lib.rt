@@ -1,10 +1,10 @@
 // Candidates: SplitMix64, and the AND of three of its outputs.
 //
-// Holds: the generator and a draw by value.
+// Holds: the generator, a draw by value, and the draw that moves a lent generator in place.
 // Ports: `random_bitboard` of src/gen_tables/magic_helpers.rs (lines 54 to 56), with SmallRng replaced.
 // Adds: the fixed generator (Steele, Lea and Flood; Vigna's reference code).
 ghost use mathlib.Core.Path.{_≡_};
-ghost use Rattle.splitmix.specs.SplitMix.{advanced, mixed, drawn};
+ghost use Rattle.splitmix.specs.SplitMix.{advanced, mixed, candidateOf, moved, drawn};
 
 // A generator is its state; any 64 bits are one.
 pub struct Generator {
@@ -44,4 +44,13 @@ impl Generator {
             next: Generator { state: c },
         }
     }
+}
+
+// For the box's long-running tool: the same draw of a lent generator, which is moved in place.
+pub fn draw_in_place(generator: &mut Generator) -> u64
+    ensures { λ r. ⌜ (r ≡ candidateOf (now (generator .entry) .state)) × (now (generator .exit) ≡ moved (now (generator .entry))) ⌝ }
+{
+    let drawn = generator.draw();
+    *generator = drawn.next;
+    drawn.candidate
 }
