@@ -20,6 +20,7 @@ ghost use Rattle.gen_magic.specs.Turn.{ored, choiceBy, whyOf, turn, buil
 // ---- what a build hands back
 
 // What a look-up needs of a block.
+#[repr(C)]
 pub struct Record {
     pub multiplier: u64,
     pub mask: u64,
