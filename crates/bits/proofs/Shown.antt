@@ -6,7 +6,7 @@ use mathlib.Core.List.{List, [], _∷_, _++_, map}
 use native.Mathlib.Nat.{add-zero, add-suc, zero-lt-suc, le-of-eq, le-of-suc-le-suc, not-suc-le-zero}
 use native.Mathlib.Numerals.{add-one}
 use native.Mathlib.Omega.{arith}
-use lib.ListN.{length, getD, take, set, replicate}
+use lib.ListN.{length, getD, take, drop, set, replicate}
 use lib.Seq.{take-all, take-suc-set, ext-getD}
 use Rattle.bits.specs.Shown.{shown, sum}
 
@@ -40,6 +40,17 @@ pub shown-store : (i v : ℕ) (l : List ℕ) (f : ℕ → ℕ) → take i l ≡ 
 shown-store i v l f e h q =
     ap (λ (n : ℕ). take n (set l i v)) (add-one i) ∙ take-suc-set l i v h ∙ ap₂ (λ (a : List ℕ) (x : ℕ). a ++ (x ∷ [])) e q
     ∙ sym (shown-more i f) ∙ ap (λ (n : ℕ). shown n f) (sym (add-one i))
+
+-- the same, where the rest of the list is kept
+over-suc : (n : ℕ) (f : ℕ → ℕ) (d : List ℕ) → n < length d → set (shown n f ++ drop n d) n (f n) ≡ shown (suc n) f ++ drop (suc n) d
+unfolding shown
+over-suc n f [] h = absurd (not-suc-le-zero h)
+over-suc zero f (x ∷ d) h = refl
+over-suc (suc n) f (x ∷ d) h = ap (λ (l : List ℕ). f zero ∷ l) (over-suc n (λ i. f (suc i)) d (le-of-suc-le-suc h))
+
+pub over-store : (i v : ℕ) (l d : List ℕ) (f : ℕ → ℕ) → l ≡ shown i f ++ drop i d → i < length d → v ≡ f i → set l i v ≡ shown (i + 1) f ++ drop (i + 1) d
+over-store i v l d f e h q =
+    ap₂ (λ (x : List ℕ) (y : ℕ). set x i y) e q ∙ over-suc i f d h ∙ ap (λ (n : ℕ). shown n f ++ drop n d) (sym (add-one i))
 
 pub shown-whole : (n : ℕ) (l : List ℕ) (f : ℕ → ℕ) → length l ≡ n → take n l ≡ shown n f → l ≡ shown n f
 shown-whole n l f e q = sym (take-all n l (le-of-eq e)) ∙ q

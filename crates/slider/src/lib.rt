@@ -13,6 +13,7 @@ use refusal::Refusal;
 use square::Name;
 use square::Step;
 ghost use mathlib.Core.Path.{_≡_};
+ghost use Prim.Native.Nat.{_≤_, _<_, min};
 ghost use lib.ListN.{length};
 ghost use Rattle.refusal.specs.Paper.{said, gives};
 ghost use Rattle.square.specs.Square.{readName, nameSaid, stepped, upSaid, downSaid, leftSaid, rightSaid};
@@ -24,6 +25,7 @@ ghost use Rattle.gen_magic.specs.Builds.{told, fromSeed, fromLent};
 ghost use Rattle.magic.specs.LookUp.{lookUp};
 ghost use Rattle.magic.specs.Audit.{auditSays};
 ghost use Rattle.slider.specs.Flat.{valueAt, answerOf, verdictOf, foundOf, numberIn, blockIn, buildOf, handed, handedOf, placeOf, nameOf, stepOf};
+ghost use Rattle.slider.specs.Batch.{Batch, fewest, walkAsked, pextAsked, movesAsked};
 
 // ---- plain data
 
@@ -408,4 +410,96 @@ pub extern "C" fn slider_audit(set: SliderRecords, table: &[u64]) -> SliderVerdi
             reach: 0,
         },
     }
+}
+
+// ---- batches: as many queries as each slice has; the rest of numbers and moves stays as it is
+
+fn fewer(a: usize, b: usize) -> usize
+    ensures { λ r. ⌜ r ≡ min a b ⌝ }
+{
+    if a < b {
+        return a;
+    }
+    b
+}
+
+#[no_mangle]
+pub extern "C" fn slider_walk_batch(
+    kinds: &[u8],
+    squares: &[u8],
+    blockers: &[u64],
+    numbers: &mut [u64],
+    moves: &mut [u64],
+) -> u64
+    ensures { λ r. ⌜ Batch (walkAsked (now (kinds .entry)) (now (squares .entry)) (now (blockers .entry))) (fewest (length (now (kinds .entry))) (length (now (squares .entry))) (length (now (blockers .entry))) (length (now (numbers .entry))) (length (now (moves .entry)))) r (now (numbers .entry)) (now (moves .entry)) (now (numbers .exit)) (now (moves .exit)) ⌝ }
+{
+    let queries = fewer(fewer(kinds.len(), squares.len()), blockers.len());
+    let n = fewer(queries, fewer(numbers.len(), moves.len()));
+    let mut i: usize = 0;
+    while i < n {
+        let found = slider_walk(kinds[i], squares[i], blockers[i]);
+        numbers[i] = found.number;
+        moves[i] = found.value;
+        i += 1;
+    }
+    n as u64
+}
+
+#[no_mangle]
+pub extern "C" fn slider_pext_moves_batch(
+    table: &[u16],
+    kinds: &[u8],
+    squares: &[u8],
+    blockers: &[u64],
+    numbers: &mut [u64],
+    moves: &mut [u64],
+) -> u64
+    ensures { λ r. ⌜ Batch (pextAsked (now (table .entry)) (now (kinds .entry)) (now (squares .entry)) (now (blockers .entry))) (fewest (length (now (kinds .entry))) (length (now (squares .entry))) (length (now (blockers .entry))) (length (now (numbers .entry))) (length (now (moves .entry)))) r (now (numbers .entry)) (now (moves .entry)) (now (numbers .exit)) (now (moves .exit)) ⌝ }
+{
+    let queries = fewer(fewer(kinds.len(), squares.len()), blockers.len());
+    let n = fewer(queries, fewer(numbers.len(), moves.len()));
+    let mut i: usize = 0;
+    while i < n {
+        let found = slider_pext_moves(kinds[i], squares[i], blockers[i], table);
+        numbers[i] = found.number;
+        moves[i] = found.value;
+        i += 1;
+    }
+    n as u64
+}
+
+// The block of a kind and a square; any block where these are refused.
+fn block_at(kind: u8, sq: u8) -> usize
+    ensures { λ r. ⌜ (r < 128) × (kind ≤ 1 → sq ≤ 63 → r ≡ blockOf kind sq) ⌝ }
+{
+    let bishop = kind % 2;
+    let rook = (1 - bishop) as usize;
+    let square = (sq % 64) as usize;
+    rook * 64 + square
+}
+
+#[no_mangle]
+pub extern "C" fn slider_moves_batch(
+    set: SliderRecords,
+    table: &[u64],
+    kinds: &[u8],
+    squares: &[u8],
+    blockers: &[u64],
+    numbers: &mut [u64],
+    moves: &mut [u64],
+) -> u64
+    ensures { λ r. ⌜ Batch (movesAsked (set .records) (now (table .entry)) (now (kinds .entry)) (now (squares .entry)) (now (blockers .entry))) (fewest (length (now (kinds .entry))) (length (now (squares .entry))) (length (now (blockers .entry))) (length (now (numbers .entry))) (length (now (moves .entry)))) r (now (numbers .entry)) (now (moves .entry)) (now (numbers .exit)) (now (moves .exit)) ⌝ }
+{
+    let records = set.records;
+    let queries = fewer(fewer(kinds.len(), squares.len()), blockers.len());
+    let n = fewer(queries, fewer(numbers.len(), moves.len()));
+    let mut i: usize = 0;
+    while i < n {
+        let magic = records[block_at(kinds[i], squares[i])];
+        let found = slider_moves(kinds[i], squares[i], blockers[i], magic, table);
+        numbers[i] = found.number;
+        moves[i] = found.value;
+        i += 1;
+    }
+    n as u64
 }
