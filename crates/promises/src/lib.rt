@@ -1,4 +1,6 @@
 // What the definitions promise, stated once and in one place; no code.
 //
-// Holds: the table of 01's examples that are marked P, under a single statement. The three demands join it.
+// Holds: the three demands, what is promised of the audit and of a build's numbers, and the table of 01's examples under a single
+// statement.
 // Ports: nothing.
+// Adds: all of it.
