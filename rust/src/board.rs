@@ -27,6 +27,7 @@ impl TryFrom<u8> for Kind {
 }
 
 impl From<Kind> for u8 {
+    #[inline]
     fn from(kind: Kind) -> u8 {
         kind as u8
     }
@@ -63,6 +64,7 @@ impl Square {
     }
 
     /// 0 to 63.
+    #[inline]
     pub fn number(self) -> u8 {
         self.0
     }
@@ -157,6 +159,7 @@ impl fmt::Display for Square {
 /// assert_eq!(block(Kind::Rook, "a1".parse()?), 64);
 /// # Ok::<(), slider::Refusal>(())
 /// ```
+#[inline]
 pub fn block(kind: Kind, square: Square) -> usize {
     let from = match kind {
         Kind::Bishop => 0,
@@ -183,11 +186,13 @@ pub(crate) fn block_name(block: usize) -> String {
 
 impl SliderAnswer {
     /// The value, or a refusal that carries nothing.
+    #[inline]
     pub(crate) fn said(self) -> Result<u64, Refusal> {
         said(self.number, self.value, || Refusal::of_look_up(self.number))
     }
 
     /// The value of a call that can be refused for kind or square alone: both are typed, so it is not.
+    #[inline]
     pub(crate) fn sure(self) -> u64 {
         debug_assert_eq!(self.number, 0);
         self.value
@@ -237,6 +242,7 @@ pub fn subset(kind: Kind, square: Square, i: u64) -> u64 {
 /// assert_eq!(walk(Kind::Rook, "d4".parse()?, 0x0000_0800_0A00_0000), 0x0000_0808_F608_0808);
 /// # Ok::<(), slider::Refusal>(())
 /// ```
+#[inline]
 pub fn walk(kind: Kind, square: Square, blockers: u64) -> u64 {
     ffi::walk(kind.into(), square.0, blockers).sure()
 }

@@ -88,11 +88,6 @@ extern "C" {
     fn slider_build_lent(multipliers: *const u64, multipliers_len: usize, table: *mut u64, table_len: usize, marks: *mut u64, marks_len: usize) -> SliderBuild;
     fn slider_moves(kind: u8, sq: u8, blockers: u64, magic: Record, table: *const u64, table_len: usize) -> SliderAnswer;
     fn slider_audit(set: SliderRecords, table: *const u64, table_len: usize) -> SliderVerdict;
-}
-
-#[cfg(slider_batch)]
-#[rustfmt::skip]
-extern "C" {
     fn slider_moves_batch(set: SliderRecords, table: *const u64, table_len: usize, kinds: *const u8, kinds_len: usize, squares: *const u8, squares_len: usize, blockers: *const u64, blockers_len: usize, numbers: *mut u64, numbers_len: usize, moves: *mut u64, moves_len: usize) -> u64;
     fn slider_pext_moves_batch(table: *const u16, table_len: usize, kinds: *const u8, kinds_len: usize, squares: *const u8, squares_len: usize, blockers: *const u64, blockers_len: usize, numbers: *mut u64, numbers_len: usize, moves: *mut u64, moves_len: usize) -> u64;
     fn slider_walk_batch(kinds: *const u8, kinds_len: usize, squares: *const u8, squares_len: usize, blockers: *const u64, blockers_len: usize, numbers: *mut u64, numbers_len: usize, moves: *mut u64, moves_len: usize) -> u64;
@@ -102,6 +97,7 @@ extern "C" {
 
 macro_rules! numbers_alone {
     ($($name:ident = $export:ident($($arg:ident: $type:ty),+) -> $answer:ty;)+) => {$(
+        #[inline]
         pub fn $name($($arg: $type),+) -> $answer {
             // Sound by 1: numbers go in and come out, nothing is lent.
             unsafe { $export($($arg),+) }
@@ -136,6 +132,7 @@ pub fn pext_fill(table: &mut [u16]) -> SliderAnswer {
     unsafe { slider_pext_fill(table.as_mut_ptr(), table.len()) }
 }
 
+#[inline]
 pub fn pext_moves(kind: u8, sq: u8, blockers: u64, table: &[u16]) -> SliderAnswer {
     // Sound by 1 to 3: `table` is read.
     unsafe { slider_pext_moves(kind, sq, blockers, table.as_ptr(), table.len()) }
@@ -159,6 +156,7 @@ pub fn build_lent(multipliers: &[u64], table: &mut [u64], marks: &mut [u64]) -> 
     }
 }
 
+#[inline]
 pub fn moves(kind: u8, sq: u8, blockers: u64, magic: Record, table: &[u64]) -> SliderAnswer {
     // Sound by 1 to 3: `table` is read, at no place past its length, whatever the record says (refusal 7).
     unsafe { slider_moves(kind, sq, blockers, magic, table.as_ptr(), table.len()) }
@@ -180,7 +178,6 @@ pub struct Batch<'a> {
     pub moves: &'a mut [u64],
 }
 
-#[cfg(slider_batch)]
 macro_rules! ask {
     ($export:ident($($lent:expr),*), $batch:expr) => {
         // Sound by 1 to 3: `numbers` and `moves` are written, each an exclusive borrow of its own; the rest is read.
@@ -197,7 +194,6 @@ macro_rules! ask {
     };
 }
 
-#[cfg(slider_batch)]
 impl Batch<'_> {
     pub fn magic(self, set: SliderRecords, table: &[u64]) -> u64 {
         ask!(slider_moves_batch(set, table.as_ptr(), table.len()), self)
@@ -209,40 +205,6 @@ impl Batch<'_> {
 
     pub fn walk(self) -> u64 {
         ask!(slider_walk_batch(), self)
-    }
-}
-
-/// For an archive without the batch exports (build.rs): the same answers, a query at a time.
-#[cfg(not(slider_batch))]
-impl Batch<'_> {
-    fn each(self, ask: impl Fn(u8, u8, u64) -> SliderAnswer) -> u64 {
-        let queries = self.kinds.iter().zip(self.squares).zip(self.blockers);
-        let answers = self.numbers.iter_mut().zip(self.moves);
-        let mut count = 0;
-        for (((&kind, &sq), &blockers), (number, moves)) in queries.zip(answers) {
-            let answer = ask(kind, sq, blockers);
-            *number = answer.number;
-            *moves = answer.value;
-            count += 1;
-        }
-        count
-    }
-
-    pub fn magic(self, set: SliderRecords, table: &[u64]) -> u64 {
-        let none = Record::default(); // kind and square are refused before the record is read
-        let block = |kind, sq: u8| if kind == 0 { 64 + usize::from(sq) } else { usize::from(sq) };
-        self.each(|kind, sq, blockers| {
-            let record = set.records.get(block(kind, sq)).copied().unwrap_or(none);
-            moves(kind, sq, blockers, record, table)
-        })
-    }
-
-    pub fn pext(self, table: &[u16]) -> u64 {
-        self.each(|kind, sq, blockers| pext_moves(kind, sq, blockers, table))
-    }
-
-    pub fn walk(self) -> u64 {
-        self.each(walk)
     }
 }
 

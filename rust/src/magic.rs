@@ -85,6 +85,7 @@ pub fn build_lent(multipliers: &[u64], table: &mut [u64], marks: &mut [u64]) -> 
 }
 
 /// One look-up by its formula, for any record and any table. Refusals: 8, 7.
+#[inline]
 pub fn moves(kind: Kind, square: Square, blockers: u64, record: Record, table: &[u64]) -> Result<u64, Refusal> {
     ffi::moves(kind.into(), square.number(), blockers, record, table).said()
 }
@@ -171,6 +172,7 @@ impl Tables {
     }
 
     /// The attack set. It is never refused: a built set passes its audit.
+    #[inline]
     pub fn moves(&self, kind: Kind, square: Square, blockers: u64) -> Result<u64, Refusal> {
         moves(kind, square, blockers, self.records[block(kind, square)], &self.table)
     }

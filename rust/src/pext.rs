@@ -16,6 +16,7 @@ pub fn fill(entries: &mut [u16]) -> Result<u64, Refusal> {
 }
 
 /// One look-up, for any 107,648 entries. Refusal: 9.
+#[inline]
 pub fn moves(kind: Kind, square: Square, blockers: u64, entries: &[u16]) -> Result<u64, Refusal> {
     ffi::pext_moves(kind.into(), square.number(), blockers, entries).said()
 }
@@ -72,6 +73,7 @@ impl Table {
     }
 
     /// The attack set.
+    #[inline]
     pub fn moves(&self, kind: Kind, square: Square, blockers: u64) -> u64 {
         ffi::pext_moves(kind.into(), square.number(), blockers, &self.entries).sure()
     }

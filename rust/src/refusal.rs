@@ -114,6 +114,7 @@ impl Refusal {
 }
 
 /// `given` where the library's number is 0; else the refusal, which `read` knows.
+#[inline]
 pub(crate) fn said<T>(number: u64, given: T, read: impl FnOnce() -> Option<Refusal>) -> Result<T, Refusal> {
     match number {
         0 => Ok(given),

@@ -95,22 +95,13 @@ fn c_structs(text: &str) -> Declared {
     all
 }
 
-const BATCH: [&str; 3] = ["slider_moves_batch", "slider_pext_moves_batch", "slider_walk_batch"];
-
 #[test]
 fn functions_are_declared_as_exported() {
     let exported = rust(&flat(&text("../crates/slider/src/lib.rt")), "pub extern \"C\" fn ", '(', ')');
-    assert!(exported.len() >= 20, "only {} exports found", exported.len());
-    // an archive may be older than the batches
-    let known = |mut declared: Declared| {
-        declared.retain(|name, _| exported.contains_key(name) || !BATCH.contains(&name.as_str()));
-        declared
-    };
+    assert_eq!(exported.len(), 23);
     let ffi = flat(&text("src/ffi.rs")).replace("fn slider_", "@ slider_");
-    assert_eq!(known(rust(&ffi, "@ ", '(', ')')), exported, "src/ffi.rs");
-    assert_eq!(known(c_functions(&flat(&text("include/slider.h")))), exported, "include/slider.h");
-    // until they are exported, C and Rust say the same of the batches
-    assert_eq!(rust(&ffi, "@ ", '(', ')'), c_functions(&flat(&text("include/slider.h"))));
+    assert_eq!(rust(&ffi, "@ ", '(', ')'), exported, "src/ffi.rs");
+    assert_eq!(c_functions(&flat(&text("include/slider.h"))), exported, "include/slider.h");
 }
 
 #[test]
@@ -148,7 +139,6 @@ fn a_program_in_c() {
     let program = PathBuf::from(env!("CARGO_TARGET_TMPDIR")).join("check");
     let mut command = Command::new(compiler);
     command.args(["-std=c11", "-O2", "-Wall", "-Wextra", "-Wpedantic", "-Werror", "-I"]).arg(here.join("include"));
-    command.args(cfg!(slider_batch).then(|| "-DSLIDER_BATCH"));
     command.arg(here.join("tests/c/check.c")).arg(env!("SLIDER_ARCHIVE")).arg("-o").arg(&program);
     let output = command.output().unwrap();
     assert!(output.status.success(), "{}", String::from_utf8_lossy(&output.stderr));

@@ -134,7 +134,6 @@ static void magic(const uint16_t *pext_table) {
         CHECK(same(again.records[block], built.records[block]) && again.counts[block] == 0);
     CHECK(fnv(table, SLIDER_SLOTS) == 0xFD018B2303A5733Bu);
 
-#ifdef SLIDER_BATCH
     const uint8_t kinds[] = {0, 1, 2, 0}, squares[] = {27, 0, 0, 64};
     const uint64_t blockers[] = {0x000008000A000000u, 0x200, 0, 0};
     const uint64_t want_numbers[] = {0, 0, 1, 2}, want_moves[] = {0x00000808F6080808u, 0x200, 0, 0};
@@ -149,9 +148,6 @@ static void magic(const uint16_t *pext_table) {
         CHECK(count == 4 && memcmp(numbers, want_numbers, 32) == 0 && memcmp(moves, want_moves, 32) == 0);
         CHECK(numbers[4] == 9 && moves[4] == 9);
     }
-#else
-    (void)pext_table;
-#endif
     free(table);
     free(marks);
 }
