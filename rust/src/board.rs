@@ -114,7 +114,7 @@ impl Square {
 }
 
 fn to(step: SliderStep) -> Option<Square> {
-    (step.number == 0 && step.off == 0).then(|| Square(step.square as u8))
+    (step.number == 0 && step.off == 0).then_some(Square(step.square as u8))
 }
 
 impl TryFrom<u8> for Square {

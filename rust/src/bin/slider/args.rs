@@ -36,7 +36,7 @@ impl Args {
             if options.iter().any(|(other, _)| *other == name) {
                 return Err(format!("{name} is given twice"));
             }
-            let value = value.or_else(|| given.next()).ok_or(format!("{name} needs a value"))?;
+            let value = value.or_else(|| given.next()).ok_or_else(|| format!("{name} needs a value"))?;
             options.push((name, value));
         }
         Ok(Some(Args { options, words: words.into_iter() }))
@@ -76,7 +76,7 @@ pub fn number(text: &str) -> Result<u64, String> {
     u64::from_str_radix(digits, radix)
         .ok()
         .filter(|_| readable)
-        .ok_or(format!("{text:?} is no number below 2^64, decimal or hexadecimal after 0x"))
+        .ok_or_else(|| format!("{text:?} is no number below 2^64, decimal or hexadecimal after 0x"))
 }
 
 /// A set: 16 upper-case hexadecimal digits.
@@ -85,7 +85,7 @@ pub fn set(text: &str) -> Result<u64, String> {
     u64::from_str_radix(text, 16)
         .ok()
         .filter(|_| text.len() == 16 && text.bytes().all(digit))
-        .ok_or(format!("{text:?} is not 16 upper-case hexadecimal digits"))
+        .ok_or_else(|| format!("{text:?} is not 16 upper-case hexadecimal digits"))
 }
 
 /// R or B.
@@ -100,7 +100,7 @@ pub fn kind(text: &str) -> Result<Kind, String> {
 /// A square's name of exactly two bytes.
 pub fn square(text: &str) -> Result<Square, String> {
     let name = Some(text).filter(|name| name.len() == 2).and_then(|name| name.parse().ok());
-    name.ok_or(format!("{text:?} is no square, a1 to h8"))
+    name.ok_or_else(|| format!("{text:?} is no square, a1 to h8"))
 }
 
 #[cfg(test)]

@@ -16,7 +16,7 @@ Exit status: 0 drawn; 2 bad arguments.
 ";
 
 pub fn run(mut args: Args) -> Done {
-    let mut word = |name: &str| args.next().ok_or(format!("no {name}; see `slider board --help`"));
+    let mut word = |name: &str| args.next().ok_or_else(|| format!("no {name}; see `slider board --help`"));
     let (piece, place, blockers) = (word("piece")?, word("square")?, word("blockers")?);
     args.end()?;
     let piece = kind(&piece).map_err(|error| format!("piece: {error}"))?;

@@ -71,7 +71,7 @@ const COMMANDS: [Command; 4] = [
 
 fn run() -> Done {
     let mut words = args::words()?.into_iter();
-    let first = words.next().ok_or(format!("no command\n\n{HELP}"))?;
+    let first = words.next().ok_or_else(|| format!("no command\n\n{HELP}"))?;
     match first.as_str() {
         "--help" | "-h" | "help" => return put(HELP),
         "--version" => return put(concat!("slider ", env!("CARGO_PKG_VERSION"), "\n")),
@@ -80,7 +80,7 @@ fn run() -> Done {
     let command = COMMANDS
         .iter()
         .find(|command| command.name == first)
-        .ok_or(format!("unknown command {first:?}; `slider --help` lists them"))?;
+        .ok_or_else(|| format!("unknown command {first:?}; `slider --help` lists them"))?;
     match Args::read(words, command.options).map_err(|error| format!("{error}; see `slider {first} --help`"))? {
         Some(args) => (command.run)(args),
         None => put(command.help),
