@@ -30,19 +30,35 @@ static mut RAYS: [[u64; 64]; 2] = [[0; 64]; 2];
 // ---- squares
 
 fn up(sq: u8) -> Option<u8> {
-    if sq / 8 == 7 { None } else { Some(sq + 8) }
+    if sq / 8 == 7 {
+        None
+    } else {
+        Some(sq + 8)
+    }
 }
 
 fn down(sq: u8) -> Option<u8> {
-    if sq / 8 == 0 { None } else { Some(sq - 8) }
+    if sq / 8 == 0 {
+        None
+    } else {
+        Some(sq - 8)
+    }
 }
 
 fn left(sq: u8) -> Option<u8> {
-    if sq % 8 == 0 { None } else { Some(sq - 1) }
+    if sq % 8 == 0 {
+        None
+    } else {
+        Some(sq - 1)
+    }
 }
 
 fn right(sq: u8) -> Option<u8> {
-    if sq % 8 == 7 { None } else { Some(sq + 1) }
+    if sq % 8 == 7 {
+        None
+    } else {
+        Some(sq + 1)
+    }
 }
 
 fn from_square(sq: u8) -> u64 {
@@ -54,9 +70,8 @@ fn from_square(sq: u8) -> u64 {
 pub fn gen_rays() {
     for src in 0..64u8 {
         let (r, f) = (src as i8 / 8, src as i8 % 8);
-        let rook = (0..64u8)
-            .filter(|d| (*d as i8 / 8 == r || *d as i8 % 8 == f) && *d != src)
-            .fold(0, |b, s| b | from_square(s));
+        let rook =
+            (0..64u8).filter(|d| (*d as i8 / 8 == r || *d as i8 % 8 == f) && *d != src).fold(0, |b, s| b | from_square(s));
         let bishop = (0..64u8)
             .filter(|d| (*d as i8 / 8 - r).abs() == (*d as i8 % 8 - f).abs() && *d != src)
             .fold(0, |b, s| b | from_square(s));
@@ -94,9 +109,7 @@ fn bishop_directions() -> Vec<fn(u8) -> Option<u8>> {
 }
 
 fn gen_edges() -> u64 {
-    (0..64u8)
-        .filter(|s| s / 8 == 0 || s / 8 == 7 || s % 8 == 0 || s % 8 == 7)
-        .fold(0, |b, s| b | from_square(s))
+    (0..64u8).filter(|s| s / 8 == 0 || s / 8 == 7 || s % 8 == 0 || s % 8 == 7).fold(0, |b, s| b | from_square(s))
 }
 
 fn magic_mask(sq: u8, piece: Piece) -> u64 {
