@@ -2,7 +2,7 @@
 //
 // Holds: `get_moves` by kind and square and under the original's two names, for one record by value and a lent table; `audit`
 // of 128 records.
-// Ports: src/magic.rs (lines 53 to 66 and 84 to 98): get_bishop_moves and get_rook_moves. The static tables became
+// Ports: src/magic.rs (lines 24 to 36 and 54 to 66): get_rook_moves and get_bishop_moves. The static tables became
 // arguments, get_unchecked a test.
 // Adds: refusals 1, 2, 8 and 7; the audit.
 use gen_magic::Record;

@@ -10,7 +10,7 @@ use Rattle.packing.specs.declared.Choice.{Choice}
 use Rattle.packing.specs.declared.Choice.the-variants.{Chosen}
 use Rattle.packing.specs.Pack.{Blocks, firstPassing, bySearch, byLent, State, place, next, done, run, seedBuild, lentBuild}
 use Rattle.packing.specs.Promised.{Room, after, Fits, takenBy, EachFirst, lentAt, EachClean}
-use Rattle.packing.proofs.Next.{offset-at, offset-before}
+use Rattle.packing.proofs.Next.{offset-at, taken-at, offset-before, taken-before}
 use Rattle.packing.proofs.Run.{Ran, run-next, last}
 use Rattle.packing.proofs.Success.{ran-none, chose}
 use Rattle.packing.proofs.Choices.{found, finds, lent-found, lent-finds}
@@ -24,6 +24,16 @@ after-offset B taken (suc n) b h = go (eq-or-lt-of-le (le-of-suc-le-suc h)) (aft
     go : (b ≡ n) ⊎ (b < n) → (b < n → after B taken n .offset b ≡ place B b (after B taken b)) → next B n (after B taken n) (taken n) .offset b ≡ place B b (after B taken b)
     go (inl e) ih = offset-at B n (after B taken n) (taken n) b e ∙ ap (λ (k : ℕ). place B k (after B taken k)) (sym e)
     go (inr l) ih = offset-before B n (after B taken n) (taken n) b l ∙ ih l
+
+-- what was taken for a block stays
+pub after-taken : (B : Blocks) (taken : ℕ → Taken) (n b : ℕ) → b < n → after B taken n .taken b ≡ taken b
+unfolding after
+after-taken B taken zero b h = absurd (not-suc-le-zero h)
+after-taken B taken (suc n) b h = go (eq-or-lt-of-le (le-of-suc-le-suc h)) (after-taken B taken n b)
+  where
+    go : (b ≡ n) ⊎ (b < n) → (b < n → after B taken n .taken b ≡ taken b) → next B n (after B taken n) (taken n) .taken b ≡ taken b
+    go (inl e) ih = taken-at B n (after B taken n) (taken n) b e ∙ ap taken (sym e)
+    go (inr l) ih = taken-before B n (after B taken n) (taken n) b l ∙ ih l
 
 -- ---- any run whose choices are known
 

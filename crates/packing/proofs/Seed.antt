@@ -30,11 +30,6 @@ module _ (B : Blocks) (candidate : ℕ → ℕ) where
   unfolding seedBuild
   needs-room k len s e = end-fits B len 5 (bySearch B candidate k) 128 s e
 
-  -- "the final end is the used length", at most all sizes together
-  pub used-total : (k len : ℕ) (s : State) → seedBuild B candidate k len ≡ done s → s .end ≤ sum 128 (B .size)
-  unfolding seedBuild
-  used-total k len s e = end-total B len 5 (bySearch B candidate k) 128 s e
-
   -- the blocks before n, where the end fits and the budget reaches each attempt count
   again : (k len k′ len′ n : ℕ) (s : State) → Ran B len 5 (bySearch B candidate k) n s → s .end ≤ len′ → ((b : ℕ) → b < n → s .taken b .count ≤ k′) → Ran B len′ 5 (bySearch B candidate k′) n s
   again k len k′ len′ n s e hl hk =
@@ -45,18 +40,6 @@ module _ (B : Blocks) (candidate : ℕ → ℕ) where
   pub enough : (k len k′ len′ : ℕ) (s : State) → seedBuild B candidate k len ≡ done s → mostAttempts s ≤ k′ → s .end ≤ len′ → seedBuild B candidate k′ len′ ≡ done s
   unfolding seedBuild
   enough k len k′ len′ s e hk hl = again k len k′ len′ 128 s e hl (λ b h. omega (arith, largest-le 128 (λ b. s .taken b .count) b h))
-
-  -- demand 3: "A build from that seed then succeeds exactly when its budget .. reaches the first, and table and marks have
-  -- one length that reaches the second; always with the same .."
-  pub succeeds-exactly : (k len k′ len′ : ℕ) (s : State) → seedBuild B candidate k len ≡ done s
-      → (((s′ : State) × (seedBuild B candidate k′ len′ ≡ done s′)) → (mostAttempts s ≤ k′) × (s .end ≤ len′))
-      × ((mostAttempts s ≤ k′) × (s .end ≤ len′) → seedBuild B candidate k′ len′ ≡ done s)
-  succeeds-exactly k len k′ len′ s e = (
-    λ w.
-        let e′ : seedBuild B candidate k′ len′ ≡ done s = w .1 ∙ ap done (one-success k′ len′ k len (w .0) s (w .1) e) in
-        (needs-budget k′ len′ s e′, needs-room k′ len′ s e′),
-    λ w. enough k len k′ len′ s e (w .0) (w .1),
-  )
 
   -- ---- refusals
 

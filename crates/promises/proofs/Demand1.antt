@@ -1,12 +1,16 @@
 -- Demand 1.
 -- Assumes nothing.
 use Prim.Native.Nat.{ℕ, _≤_, _<_}
-use mathlib.Core.Path.{_≡_, refl, ap, _∙_}
-use mathlib.Core.Bool.{not}
+use mathlib.Core.Path.{_≡_, refl, ap, ap₂, _∙_}
+use mathlib.Core.Bool.{Bool, not}
 use mathlib.Core.List.{List, _∷_, []}
 use mathlib.Core.Logic.{_⊎_, inl, inr}
 use borrow.Author.Tests.{lt-ltb, le-ltb, eq-eqb, ne-eqb}
+use lib.Dec.{ltb}
 use lib.ListN.{length, replicate}
+use Rattle.refusal.specs.Paper.{Said, gives, refuses, refuseIf}
+use Rattle.board.specs.Board.{onBlock}
+use Rattle.bmis.specs.Bmis as Bmis
 use Rattle.splitmix.specs.SplitMix.{candidate}
 use Rattle.packing.specs.declared.Choice.{Choice}
 use Rattle.packing.specs.Pack.{Outcome, done, refused, run, bySearch, byLent, seedBuild, lentBuild}
@@ -17,6 +21,16 @@ use Rattle.gen_magic.specs.Builds.{slots, Left, empty, ended, fromSeed, fromLen
 use Rattle.gen_magic.proofs.Answers.{kept, passed}
 use Rattle.gen_magic.proofs.Came.{seed-is, lent-is}
 use Rattle.promises.specs.Demands.{Succeeds, Demand1}
+
+kind-refused : (kind sq : ℕ) (x : Said ℕ) → 1 < kind → onBlock kind sq x ≡ refuses 1 []
+kind-refused kind sq x h = ap (λ (c : Bool). refuseIf c 1 (refuseIf (ltb 63 sq) 2 x)) (lt-ltb 1 kind h)
+
+square-refused : (kind sq : ℕ) (x : Said ℕ) → kind ≤ 1 → 63 < sq → onBlock kind sq x ≡ refuses 2 []
+square-refused kind sq x h g = ap₂ (λ (c d : Bool). refuseIf c 1 (refuseIf d 2 x)) (le-ltb 1 kind h) (lt-ltb 63 sq g)
+
+pext-refused : (old : List ℕ) → (length old ≡ 107648 → ⊥) → (Bmis.ofLength {A = ℕ} (length old) (gives 107648) ≡ refuses 9 []) × (Bmis.filled old ≡ old)
+pext-refused old f = let e = ne-eqb (length old) 107648 f in
+    (ap (λ (c : Bool). refuseIf (not c) 9 (gives 107648)) e, ap (λ (c : Bool). Bmis.filledIf c old) e)
 
 budget-refused : (seed budget : ℕ) (table marks : List ℕ) → 16777216 < budget → fromSeed seed budget table marks ≡ empty 10 [] table marks
 unfolding fromSeed
@@ -47,6 +61,9 @@ pub demand-1 : Demand1
 unfolding seedBuild lentBuild
 demand-1 =
     record {
+      kind-refused = kind-refused;
+      square-refused = square-refused;
+      pext-refused = pext-refused;
       budget-refused = budget-refused;
       lengths-refused = lengths-refused;
       list-refused = list-refused;

@@ -1,20 +1,20 @@
 -- The three demands, in their own words, over the definitions that the public functions' contracts use.
-use Prim.Native.Nat.{ℕ, _^_, _≤_, _<_}
+use Prim.Native.Nat.{ℕ, suc, _^_, _≤_, _<_}
 use mathlib.Core.Path.{_≡_}
 use mathlib.Core.List.{List, [], _∷_}
 use mathlib.Core.Logic.{_⊎_, _↔_}
 use lib.ListN.{length, getD, take, replicate}
-use Rattle.refusal.specs.Paper.{gives, refuses}
-use Rattle.board.specs.Board.{attack}
+use Rattle.refusal.specs.Paper.{Said, gives, refuses}
+use Rattle.board.specs.Board.{attack, onBlock}
 use Rattle.board.specs.Blocks.{blockOf}
 use Rattle.board.specs.Walk.{walk}
 use Rattle.board.specs.Crate.{answer}
 use Rattle.bmis.specs.Bmis as Bmis
 use Rattle.splitmix.specs.SplitMix.{candidate}
-use Rattle.packing.specs.Pack.{done}
-use Rattle.packing.specs.Promised.{after, takenBy, EachFirst, largest}
+use Rattle.packing.specs.Pack.{State, place, done}
+use Rattle.packing.specs.Promised.{Placed, after, takenBy, EachFirst, EachClean, largest}
 use Rattle.blocks.specs.Real.{real}
-use Rattle.gen_magic.specs.Builds.{slots, noRecord, Left, empty, ended, fromSeed, fromLent}
+use Rattle.gen_magic.specs.Builds.{slots, recordAt, noRecord, Left, empty, ended, fromSeed, fromLent}
 use Rattle.magic.specs.LookUp.{lookUp}
 
 -- a build succeeded
@@ -32,6 +32,9 @@ pub record Allowed (budget : ℕ) (table marks : List ℕ) : Type 0 where
 -- zero." That any numbers and lengths are taken and every call ends is in what a proof of a function is: none has a
 -- demand on its caller
 pub record Demand1 : Type 0 where
+  pub kind-refused : (kind sq : ℕ) (x : Said ℕ) → 1 < kind → onBlock kind sq x ≡ refuses 1 []
+  pub square-refused : (kind sq : ℕ) (x : Said ℕ) → kind ≤ 1 → 63 < sq → onBlock kind sq x ≡ refuses 2 []
+  pub pext-refused : (old : List ℕ) → (length old ≡ 107648 → ⊥) → (Bmis.ofLength {A = ℕ} (length old) (gives 107648) ≡ refuses 9 []) × (Bmis.filled old ≡ old)
   pub budget-refused : (seed budget : ℕ) (table marks : List ℕ) → 16777216 < budget → fromSeed seed budget table marks ≡ empty 10 [] table marks
   pub lengths-refused : (seed budget : ℕ) (table marks : List ℕ) → budget ≤ 16777216 → (length table ≡ length marks → ⊥) → fromSeed seed budget table marks ≡ empty 3 [] table marks
   pub list-refused : (multipliers table marks : List ℕ) → (length multipliers ≡ 128 → ⊥) → fromLent multipliers table marks ≡ empty 9 [] table marks
@@ -66,9 +69,18 @@ pub record Demand2 : Type 0 where
   -- free place and has a passing candidate within the budget"
   pub succeeds-exactly : (seed budget : ℕ) (table marks : List ℕ) → Allowed budget table marks
       → Succeeds (fromSeed seed budget table marks) ↔ ((position : ℕ → ℕ) × EachFirst real (candidate seed) budget (length table) position 128)
+  -- "its first free place": the one number that 01's sentence says, told without a search
+  pub first-free : (b : ℕ) (s : State) (p : ℕ) → Placed (real .size b) (real .rays b) (s .marks) (s .end) p ↔ (p ≡ place real b s)
   -- "it takes the first": all that is handed back and left is that of these places and positions
   pub takes-first : (seed budget : ℕ) (table marks : List ℕ) → Allowed budget table marks → (position : ℕ → ℕ) → EachFirst real (candidate seed) budget (length table) position 128
       → fromSeed seed budget table marks ≡ ended (length table) (done (after real (takenBy (candidate seed) position) 128))
+  -- and block by block: its record has that candidate and that place, its count is the candidate's position from 1
+  pub block-by-block : (seed budget : ℕ) (table marks : List ℕ) → Allowed budget table marks → (position : ℕ → ℕ) → EachFirst real (candidate seed) budget (length table) position 128 → (b : ℕ) → b < 128
+      → (getD (fromSeed seed budget table marks .records) b noRecord ≡ recordAt b (candidate seed (position b)) (place real b (after real (takenBy (candidate seed) position) b)))
+      × (slots (fromSeed seed budget table marks .counts) b ≡ suc (position b))
+  -- 01, "Packing": "The build from lent multipliers does the same with 128 given numbers, .. testing collisions only"
+  pub lent-exactly : (multipliers table marks : List ℕ) → length multipliers ≡ 128 → length table ≡ length marks
+      → Succeeds (fromLent multipliers table marks) ↔ EachClean real (slots multipliers) (length table) 128
 
 -- ---- demand 3
 

@@ -36,7 +36,7 @@ pub struct SliderAnswer {
     pub value: u64,
 }
 
-// value: the reach. Block and subset are the refusal's, 0 where it has none.
+// Block and subset are the refusal's, 0 where it has none; reach is 0 where refused.
 #[repr(C)]
 pub struct SliderVerdict {
     pub number: u64,
