@@ -162,7 +162,8 @@ fn limits_of_a_build() {
 fn refused_builds() {
     let (zeros, counts) = ([Record::default(); BLOCKS], [0; BLOCKS]);
     let multipliers = [0; BLOCKS];
-    let cases: [(&str, usize, usize, &dyn Fn(&mut [u64], &mut [u64]) -> Build, Refusal); 10] = [
+    type Run<'a> = &'a dyn Fn(&mut [u64], &mut [u64]) -> Build;
+    let cases: [(&str, usize, usize, Run, Refusal); 10] = [
         ("unequal", 64, 63, &|t, m| build(0, 0, t, m), Refusal::LengthsDiffer),
         ("unequal, one empty", 0, 9, &|t, m| build(0, MAX_BUDGET, t, m), Refusal::LengthsDiffer),
         ("budget before lengths", 64, 63, &|t, m| build(0, MAX_BUDGET + 1, t, m), Refusal::Budget),

@@ -10,7 +10,7 @@ fn help() {
     assert_eq!(slider("help").out, help.out);
     for command in ["build", "audit", "query", "board"] {
         assert!(help.out.contains(&format!("  slider {command}")), "{command}");
-        for words in [format!("{command} --help"), format!("{command} -h"), format!("{command} 1 2 3 --help")] {
+        for words in [format!("{command} --help"), format!("help {command}"), format!("{command} 1 2 3 -h")] {
             let ran = slider(&words);
             assert!(ran.out.starts_with(&format!("slider {command}")) && ran.out.contains("Exit status:"), "{words}");
             assert_eq!((ran.err.as_str(), ran.status), ("", Some(0)), "{words}");

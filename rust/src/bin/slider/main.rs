@@ -70,7 +70,11 @@ const COMMANDS: [Command; 4] = [
 ];
 
 fn run() -> Done {
-    let mut words = args::words()?.into_iter();
+    let mut words = args::words()?;
+    if words.len() == 2 && words[0] == "help" {
+        words = vec![words.remove(1), "--help".to_string()]; // help COMMAND
+    }
+    let mut words = words.into_iter();
     let first = words.next().ok_or_else(|| format!("no command\n\n{HELP}"))?;
     match first.as_str() {
         "--help" | "-h" | "help" => return put(HELP),
