@@ -60,12 +60,8 @@ lent-allowed multipliers table marks h =
 pub built-says : {s : Said Unit} (n : ℕ) → s ≡ gives tt → Later n s
 built-says n e = (λ q. gives-not (sym e ∙ q), λ q. gives-not (sym e ∙ q))
 
-pub record Done (len : ℕ) (o : Pack.Outcome) : Type 0 where
-  pub state : State
-  pub is : o ≡ done state
-
-pub says-done : (len : ℕ) (o : Pack.Outcome) → ended len o .says ≡ gives tt → Done len o
-says-done len (done s) e = record { state = s; is = refl }
+pub says-done : (len : ℕ) (o : Pack.Outcome) → ended len o .says ≡ gives tt → (s : State) × (o ≡ done s)
+says-done len (done s) e = (s, refl)
 says-done len (refused n b) e = absurd (gives-not (sym e))
 
 pub says-refused : (len : ℕ) (o : Pack.Outcome) (n b : ℕ) → ended len o .says ≡ refuses n (b ∷ []) → o ≡ refused n b
@@ -86,7 +82,7 @@ seed-success seed budget table marks e =
     let a = seed-allowed seed budget table marks (built-says 10 e) in
     let i = seed-is seed budget table marks (a .0) (a .1) in
     let d = says-done (length table) _ (ap (λ (l : Left). l .says) (sym i) ∙ e) in
-    record { budget-allowed = a .0; one-length = a .1; state = d .state; is = d .is; left = i ∙ ap (ended (length table)) (d .is) }
+    record { budget-allowed = a .0; one-length = a .1; state = d .0; is = d .1; left = i ∙ ap (ended (length table)) (d .1) }
 
 pub record LentSuccess (multipliers table marks : List ℕ) : Type 0 where
   pub state : State
@@ -98,7 +94,7 @@ lent-success multipliers table marks e =
     let a = lent-allowed multipliers table marks (built-says 9 e) in
     let i = lent-is multipliers table marks (a .0) (a .1) in
     let d = says-done (length table) _ (ap (λ (l : Left). l .says) (sym i) ∙ e) in
-    record { state = d .state; is = d .is; left = i ∙ ap (ended (length table)) (d .is) }
+    record { state = d .0; is = d .1; left = i ∙ ap (ended (length table)) (d .1) }
 
 -- ---- a refusal with a block, which is none of an argument
 
@@ -109,6 +105,9 @@ pub seed-refused : (seed budget n b : ℕ) (table marks : List ℕ) → fromSeed
 seed-refused seed budget n b table marks e =
     let a = seed-allowed seed budget table marks (λ q. bare (sym e ∙ q), λ q. bare (sym e ∙ q)) in
     (a .0, a .1, says-refused (length table) _ n b (ap (λ (l : Left). l .says) (sym (seed-is seed budget table marks (a .0) (a .1))) ∙ e))
+
+pub seed-refuses : (seed budget n b : ℕ) (table marks : List ℕ) → budget ≤ 16777216 → length table ≡ length marks → seedBuild real (candidate seed) budget (length table) ≡ refused n b → fromSeed seed budget table marks .says ≡ refuses n (b ∷ [])
+seed-refuses seed budget n b table marks h e q = ap (λ (l : Left). l .says) (seed-is seed budget table marks h e ∙ ap (ended (length table)) q)
 
 pub lent-refused : (n b : ℕ) (multipliers table marks : List ℕ) → fromLent multipliers table marks .says ≡ refuses n (b ∷ []) → lentBuild real (slots multipliers) (length table) ≡ refused n b
 lent-refused n b multipliers table marks e =

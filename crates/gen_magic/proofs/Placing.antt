@@ -15,7 +15,7 @@ use Rattle.packing.proofs.Run.{run-next}
 use Rattle.blocks.specs.Real.{real}
 use Rattle.gen_magic.specs.declared.Record.{Record}
 use Rattle.gen_magic.specs.declared.Source.{Source}
-use Rattle.gen_magic.specs.Builds.{slots, recordAt, noRecord}
+use Rattle.gen_magic.specs.Builds.{slots, recordAt, noRecord, recordIn}
 use Rattle.gen_magic.specs.Turn.{ored, choiceBy, whyOf}
 use Rattle.gen_magic.proofs.Loans.{getD-put}
 use Rattle.gen_magic.proofs.Turns.{Goes}
@@ -27,15 +27,15 @@ module _ {source : Source} {l : List ℕ} {len b : ℕ} {table marks : List ℕ}
     (er : made ≡ recordAt b (x .multiplier) p)
     (ee : end′ ≡ max end (p + real .size b)) where
   abbrev records₀ : ℕ → Record
-  records₀ k = getD records k noRecord
+  records₀ k = recordIn records k
 
   abbrev taken₀ : ℕ → Taken
   taken₀ = stateOf table marks records counts end .taken
 
-  record-now : (j : ℕ) → getD (set records b made) j noRecord ≡ put b made records₀ j
+  record-now : (j : ℕ) → recordIn (set records b made) j ≡ put b made records₀ j
   record-now j = getD-put records b made noRecord j (omega (arith, h .records-long))
 
-  own-now : (j : ℕ) → j < b + 1 → Own j (getD (set records b made) j noRecord)
+  own-now : (j : ℕ) → j < b + 1 → Own j (recordIn (set records b made) j)
   own-now j low = subst (Own j) (sym (record-now j)) (go (ℕ-discrete b j))
     where
       own-made : Own b made
@@ -45,12 +45,12 @@ module _ {source : Source} {l : List ℕ} {len b : ℕ} {table marks : List ℕ}
       go (yes e) = subst (λ (k : ℕ). Own k (put b made records₀ k)) e (subst (Own b) (sym (put-same b made records₀)) own-made)
       go (no f) = subst (Own j) (sym (put-other b made records₀ j f)) (h .own j (omega (arith, f)))
 
-  offset-now : (j : ℕ) → getD (set records b made) j noRecord .offset ≡ put b (firstFree (real .size b) (real .rays b) (slots marks) end) (λ k. records₀ k .offset) j
+  offset-now : (j : ℕ) → recordIn (set records b made) j .offset ≡ put b (firstFree (real .size b) (real .rays b) (slots marks) end) (λ k. records₀ k .offset) j
   offset-now j =
       ap (λ (r : Record). r .offset) (record-now j) ∙ put-map (λ (r : Record). r .offset) b made records₀ j
       ∙ ap (λ (q : ℕ). put b q (λ k. records₀ k .offset) j) (ap (λ (r : Record). r .offset) er ∙ g .place-is)
 
-  multiplier-now : (j : ℕ) → getD (set records b made) j noRecord .multiplier ≡ put b x taken₀ j .multiplier
+  multiplier-now : (j : ℕ) → recordIn (set records b made) j .multiplier ≡ put b x taken₀ j .multiplier
   multiplier-now j =
       ap (λ (r : Record). r .multiplier) (record-now j) ∙ put-map (λ (r : Record). r .multiplier) b made records₀ j
       ∙ ap (λ (m : ℕ). put b m (λ k. records₀ k .multiplier) j) (ap (λ (r : Record). r .multiplier) er)

@@ -20,7 +20,7 @@ use Rattle.gen_magic.specs.declared.Record.{Record}
 use Rattle.gen_magic.specs.declared.Source.{Source}
 use Rattle.gen_magic.specs.declared.Source.the-variants.{Seed, Lent}
 use Rattle.gen_magic.specs.declared.Outcome.the-variants.{Built}
-use Rattle.gen_magic.specs.Builds.{slots, recordAt, noRecord, leaves, empty, ended}
+use Rattle.gen_magic.specs.Builds.{slots, recordAt, noRecord, leaves, empty, ended, recordIn}
 use Rattle.gen_magic.specs.Turn.{choiceBy, whyOf, built}
 use Rattle.gen_magic.proofs.Turns.{Stops, full, nothing}
 
@@ -31,8 +31,8 @@ stateOf table marks records counts end =
       table = slots table;
       marks = slots marks;
       end = end;
-      offset = λ b. getD records b noRecord .offset;
-      taken = λ b. record { multiplier = getD records b noRecord .multiplier; count = getD counts b 0 };
+      offset = λ b. recordIn records b .offset;
+      taken = λ b. record { multiplier = recordIn records b .multiplier; count = getD counts b 0 };
     }
 
 -- a record has the block's own mask and shift
@@ -50,7 +50,7 @@ built-is Lent l len = refl
 
 pub record Sofar (source : Source) (l : List ℕ) (len b : ℕ) (table marks : List ℕ) (records : List Record) (counts : List ℕ) (end : ℕ) : Type 0 where
   pub ran : runTo source l len b ≡ done (stateOf table marks records counts end)
-  pub own : (j : ℕ) → j < b → Own j (getD records j noRecord)
+  pub own : (j : ℕ) → j < b → Own j (recordIn records j)
   pub table-long : length table ≡ len
   pub marks-long : length marks ≡ len
   pub records-long : length records ≡ 128
@@ -112,7 +112,7 @@ module _ {source : Source} {l : List ℕ} {len : ℕ} where
       shown-all =
           λ i. record {
             says = gives tt;
-            records = shown-list 128 records noRecord (λ b. recordAt b (getD records b noRecord .multiplier) (getD records b noRecord .offset)) (h .records-long) (λ j low. h .own j (omega (arith, e))) i;
+            records = shown-list 128 records noRecord (λ b. recordAt b (recordIn records b .multiplier) (recordIn records b .offset)) (h .records-long) (λ j low. h .own j (omega (arith, e))) i;
             counts = shown-list 128 counts 0 (slots counts) (h .counts-long) (λ _ _. refl) i;
             used = end;
             table = shown-list len table 0 (slots table) (h .table-long) (λ _ _. refl) i;

@@ -29,6 +29,14 @@ recordAt b multiplier offset =
 abbrev pub noRecord : Record
 noRecord = record { multiplier = 0; mask = 0; offset = 0; shift = 0 }
 
+-- the record of block b among 128
+abbrev pub recordIn : List Record → ℕ → Record
+recordIn records b = getD records b noRecord
+
+-- the record of a block that is placed
+abbrev pub recordOf : Pack.State → ℕ → Record
+recordOf s b = recordAt b (s .taken b .multiplier) (s .offset b)
+
 -- an outcome in the paper's terms
 abbrev pub told : Outcome → Said Unit
 told Built = gives tt
@@ -64,7 +72,7 @@ abbrev pub ended : ℕ → Pack.Outcome → Left
 ended len (Pack.done s) =
     record {
       says = gives tt;
-      records = shown 128 (λ b. recordAt b (s .taken b .multiplier) (s .offset b));
+      records = shown 128 (recordOf s);
       counts = shown 128 (λ b. s .taken b .count);
       used = s .end;
       table = shown len (s .table);

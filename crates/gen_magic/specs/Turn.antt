@@ -1,4 +1,4 @@
--- One block's turn, as the code takes it, for either source of multipliers.
+-- One block's turn, as the code takes it, for either source of multipliers. No public statement rests on this file.
 use Prim.Native.Nat.{ℕ, _+_}
 use mathlib.Core.Bool.{Bool, true, false}
 use mathlib.Core.List.{List}

@@ -23,9 +23,9 @@ use Rattle.packing.specs.Promised.{slotOf, Right}
 use Rattle.blocks.specs.Real.{real, magicIndex}
 use Rattle.blocks.proofs.Real.{index-lt as slot-lt}
 use Rattle.gen_magic.specs.declared.Record.{Record}
-use Rattle.gen_magic.specs.Builds.{noRecord, recordAt}
+use Rattle.gen_magic.specs.Builds.{noRecord, recordIn, recordOf}
 use Rattle.magic.specs.LookUp.{slotIn, lookUp}
-use Rattle.magic.specs.Audit.{AllHold}
+use Rattle.magic.specs.Audit.{Reads, AllHold}
 use Rattle.magic.proofs.LookUps.{outside, look-gives}
 use Rattle.magic.proofs.Audits.{inside}
 
@@ -38,20 +38,20 @@ look-up-mask k s a b r table e =
     ap (λ (n : ℕ). refuseIf (ltb (r .shift) 52 || ltb 59 (r .shift)) 8 (refuseIf (leb (length table) n) 7 (gives (bitAnd (getD table n 0) (rays k s)))))
     (ap (λ (x : ℕ). r .offset + r .multiplier * x % 2 ^ 64 / 2 ^ r .shift) e)
 
-pub look-up-attack : (records : List Record) (table : List ℕ) → AllHold records table → (k s b : ℕ) → k < 2 → s < 64 → b < 2 ^ 64 → lookUp k s b (getD records (blockOf k s) noRecord) table ≡ gives (attack k s b)
+pub look-up-attack : (records : List Record) (table : List ℕ) → AllHold records table → (k s b : ℕ) → k < 2 → s < 64 → b < 2 ^ 64 → lookUp k s b (recordIn records (blockOf k s)) table ≡ gives (attack k s b)
 look-up-attack records table h k s b hk hs hb =
     look-up-mask k s b (subset k s i) r table same
-    ∙ subst₂ (λ (x y : ℕ). i < sizeOf x y → lookUp x y (subset x y i) r table ≡ gives (attack x y (subset x y i))) (kind-block k s hk hs) (square-block k s hs) (h .reads (blockOf k s) i (block-lt k s hk hs)) (index-lt k s b)
+    ∙ subst₂ (λ (x y : ℕ). i < sizeOf x y → lookUp x y (subset x y i) r table ≡ gives (attack x y (subset x y i))) (kind-block k s hk hs) (square-block k s hs) (h (blockOf k s) (block-lt k s hk hs) .reads i) (index-lt k s b)
     ∙ ap gives (attack-subset k s b hk hs hb)
   where
     r : Record
-    r = getD records (blockOf k s) noRecord
+    r = recordIn records (blockOf k s)
 
     i : ℕ
     i = pext b (mask k s)
 
     own : r .mask ≡ mask k s
-    own = h .own-mask (blockOf k s) (block-lt k s hk hs) ∙ ap₂ mask (kind-block k s hk hs) (square-block k s hs)
+    own = h (blockOf k s) (block-lt k s hk hs) .own .0 ∙ ap₂ mask (kind-block k s hk hs) (square-block k s hs)
 
     same : bitAnd b (r .mask) ≡ bitAnd (subset k s i) (r .mask)
     same =
@@ -61,15 +61,12 @@ look-up-attack records table h k s b hk hs hb =
 -- ---- a built set
 
 module _ (len : ℕ) (s : State) (h : Right real len s) where
-  abbrev pub recordsOf : List Record
-  recordsOf = shown 128 (λ b. recordAt b (s .taken b .multiplier) (s .offset b))
-
   module _ (b : ℕ) (low : b < 128) where
-    record-is : getD recordsOf b noRecord ≡ recordAt b (s .taken b .multiplier) (s .offset b)
-    record-is = getD-shown 128 b (λ b. recordAt b (s .taken b .multiplier) (s .offset b)) noRecord low
+    record-is : recordIn (shown 128 (recordOf s)) b ≡ recordOf s b
+    record-is = getD-shown 128 b (recordOf s) noRecord low
 
     -- the slot by the record is the one that the packing filled
-    slot-is : (i : ℕ) → slotIn (recordAt b (s .taken b .multiplier) (s .offset b)) (subset (kindOf b) (squareOf b) i) ≡ slotOf real s b i
+    slot-is : (i : ℕ) → slotIn (recordOf s b) (subset (kindOf b) (squareOf b) i) ≡ slotOf real s b i
     unfolding slotIn magicIndex
     slot-is i = ap (λ (x : ℕ). s .offset b + s .taken b .multiplier * x % 2 ^ 64 / 2 ^ shiftOf (kindOf b) (squareOf b)) (subset-in-mask (kindOf b) (squareOf b) i)
 
@@ -79,18 +76,17 @@ module _ (len : ℕ) (s : State) (h : Right real len s) where
         plain : (a x z : ℕ) → x < z → a + z ≤ len → a + x < len
         plain a x z p q = omega arith
 
-    reads : (i : ℕ) → i < real .size b → lookUp (kindOf b) (squareOf b) (subset (kindOf b) (squareOf b) i) (recordAt b (s .taken b .multiplier) (s .offset b)) (shown len (s .table)) ≡ gives (real .walk b i)
+    reads : (i : ℕ) → i < real .size b → Reads b (recordOf s b) (shown len (s .table)) i
     reads i l =
-        sym (look-gives (kindOf b) (squareOf b) (subset (kindOf b) (squareOf b) i) (recordAt b (s .taken b .multiplier) (s .offset b)) (shown len (s .table)) in-range (subst₂ (λ (x y : ℕ). x < y) (sym (slot-is i)) (sym (length-shown len (s .table))) (slot-within i)))
+        sym (look-gives (kindOf b) (squareOf b) (subset (kindOf b) (squareOf b) i) (recordOf s b) (shown len (s .table)) in-range (subst₂ (λ (x y : ℕ). x < y) (sym (slot-is i)) (sym (length-shown len (s .table))) (slot-within i)))
         ∙ ap gives (ap (λ (x : ℕ). bitAnd x (real .rays b)) (ap (λ (n : ℕ). getD (shown len (s .table)) n 0) (slot-is i) ∙ getD-shown len (slotOf real s b i) (s .table) 0 (slot-within i)) ∙ h .reads b i low l)
       where
         in-range : outside (shiftOf (kindOf b) (squareOf b)) ≡ false
         in-range = inside (shiftOf (kindOf b) (squareOf b)) (shift-low (kindOf b) (squareOf b) (kind-lt b) (square-lt b), shift-high (kindOf b) (squareOf b) (kind-lt b) (square-lt b))
 
-  pub built-holds : AllHold recordsOf (shown len (s .table))
-  built-holds =
+  pub built-holds : AllHold (shown 128 (recordOf s)) (shown len (s .table))
+  built-holds b low =
       record {
-        own-mask = λ b low. ap (λ (r : Record). r .mask) (record-is b low);
-        own-shift = λ b low. ap (λ (r : Record). r .shift) (record-is b low);
-        reads = λ b i low l. ap (λ (r : Record). lookUp (kindOf b) (squareOf b) (subset (kindOf b) (squareOf b) i) r (shown len (s .table))) (record-is b low) ∙ reads b low i l;
+        own = (ap (λ (r : Record). r .mask) (record-is b low), ap (λ (r : Record). r .shift) (record-is b low));
+        reads = λ i l. ap (λ (r : Record). lookUp (kindOf b) (squareOf b) (subset (kindOf b) (squareOf b) i) r (shown len (s .table))) (record-is b low) ∙ reads b low i l;
       }

@@ -20,7 +20,7 @@ use Rattle.board.proofs.Sizes.{shift-low, shift-high}
 use Rattle.blocks.specs.Real.{real}
 use Rattle.gen_magic.specs.declared.Record.{Record}
 use Rattle.magic.specs.LookUp.{slotIn, lookUp}
-use Rattle.magic.specs.Audit.{orElse, inTurn, exact, compared, subsetSays, blockSays}
+use Rattle.magic.specs.Audit.{orElse, inTurn, exact, compared, subsetSays, blockSays, Own}
 use Rattle.magic.proofs.LookUps.{outside}
 
 -- ---- one subset
@@ -88,14 +88,18 @@ module _ (f : ℕ → Said Unit) where
 -- ---- one block
 
 module _ (b : ℕ) (r : Record) where
-  pub exact-is : exact b r ≡ true → (r .mask ≡ mask (kindOf b) (squareOf b)) × (r .shift ≡ shiftOf (kindOf b) (squareOf b))
+  pub exact-is : exact b r ≡ true → Own b r
   unfolding exact
   exact-is e = go (eqb (r .mask) (mask (kindOf b) (squareOf b))) (eqb (r .shift) (shiftOf (kindOf b) (squareOf b))) refl refl e
     where
-      go : (x y : Bool) → eqb (r .mask) (mask (kindOf b) (squareOf b)) ≡ x → eqb (r .shift) (shiftOf (kindOf b) (squareOf b)) ≡ y → (x && y) ≡ true → (r .mask ≡ mask (kindOf b) (squareOf b)) × (r .shift ≡ shiftOf (kindOf b) (squareOf b))
+      go : (x y : Bool) → eqb (r .mask) (mask (kindOf b) (squareOf b)) ≡ x → eqb (r .shift) (shiftOf (kindOf b) (squareOf b)) ≡ y → (x && y) ≡ true → Own b r
       go true true ex ey q = (eqb-true _ _ ex, eqb-true _ _ ey)
       go true false ex ey q = absurd (true≢false (sym q))
       go false y ex ey q = absurd (true≢false (sym q))
+
+  pub exact-own : Own b r → exact b r ≡ true
+  unfolding exact
+  exact-own h = ap₂ _&&_ (eq-eqb (r .mask) (mask (kindOf b) (squareOf b)) (h .0)) (eq-eqb (r .shift) (shiftOf (kindOf b) (squareOf b)) (h .1))
 
   pub exact-range : exact b r ≡ true → (52 ≤ r .shift) × (r .shift ≤ 59)
   exact-range e = (

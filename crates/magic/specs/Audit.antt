@@ -10,10 +10,10 @@ use Rattle.board.specs.Board.{mask}
 use Rattle.board.specs.Blocks.{kindOf, squareOf, shiftOf, subset}
 use Rattle.blocks.specs.Real.{real}
 use Rattle.gen_magic.specs.declared.Record.{Record}
-use Rattle.gen_magic.specs.Builds.{noRecord}
+use Rattle.gen_magic.specs.Builds.{recordIn}
 use Rattle.magic.specs.declared.Check.{Check}
 use Rattle.magic.specs.declared.Check.the-variants.{Holds, Fails}
-use Rattle.magic.specs.LookUp.{lookUp}
+use Rattle.magic.specs.LookUp.{slotIn, lookUp}
 
 -- the test holds, "else" the number with its values
 abbrev pub orElse : Bool → ℕ → List ℕ → Said Unit
@@ -42,11 +42,11 @@ unfoldable pub blockSays : ℕ → Record → List ℕ → Said Unit
 blockSays b r table = andThen (orElse (exact b r) 8 (b ∷ [])) (λ _. inTurn (real .size b) (subsetSays b r table))
 
 unfoldable pub blocksSay : List Record → List ℕ → Said Unit
-blocksSay records table = inTurn 128 (λ b. blockSays b (getD records b noRecord) table)
+blocksSay records table = inTurn 128 (λ b. blockSays b (recordIn records b) table)
 
 -- "the reach: the end (offset + size) of block 127"
 unfoldable pub reachOf : List Record → ℕ
-reachOf records = getD records 127 noRecord .offset + real .size 127
+reachOf records = recordIn records 127 .offset + real .size 127
 
 -- "It accepts exactly when all hold, .. and reports the reach"
 unfoldable pub auditSays : List Record → List ℕ → Said ℕ
@@ -59,8 +59,35 @@ checked (Fails r) = refused r
 
 -- ---- what acceptance stands for
 
--- "all hold": each record has its block's mask and shift, and each subset's look-up is the walk
-pub record AllHold (records : List Record) (table : List ℕ) : Type 0 where
-  pub own-mask : (b : ℕ) → b < 128 → getD records b noRecord .mask ≡ mask (kindOf b) (squareOf b)
-  pub own-shift : (b : ℕ) → b < 128 → getD records b noRecord .shift ≡ shiftOf (kindOf b) (squareOf b)
-  pub reads : (b i : ℕ) → b < 128 → i < real .size b → lookUp (kindOf b) (squareOf b) (subset (kindOf b) (squareOf b) i) (getD records b noRecord) table ≡ gives (real .walk b i)
+-- a block's "mask and shift exact"
+abbrev pub Own : ℕ → Record → Type 0
+Own b r = (r .mask ≡ mask (kindOf b) (squareOf b)) × (r .shift ≡ shiftOf (kindOf b) (squareOf b))
+
+-- "look-up equal to the walk"
+abbrev pub Reads : ℕ → Record → List ℕ → ℕ → Type 0
+Reads b r table i = lookUp (kindOf b) (squareOf b) (subset (kindOf b) (squareOf b) i) r table ≡ gives (real .walk b i)
+
+pub record BlockHolds (b : ℕ) (r : Record) (table : List ℕ) : Type 0 where
+  pub own : Own b r
+  pub reads : (i : ℕ) → i < real .size b → Reads b r table i
+
+abbrev pub HoldBefore : ℕ → List Record → List ℕ → Type 0
+HoldBefore n records table = (b : ℕ) → b < n → BlockHolds b (recordIn records b) table
+
+-- "all hold"
+abbrev pub AllHold : List Record → List ℕ → Type 0
+AllHold records table = HoldBefore 128 records table
+
+-- ---- where a refusal stands
+
+-- the slot that the look-up of a subset is about
+abbrev pub slotAsked : ℕ → ℕ → Record → ℕ
+slotAsked b i r = slotIn r (subset (kindOf b) (squareOf b) i)
+
+-- "Per block: mask and shift exact ..; then subsets in order": all that comes before subset i of block b holds
+pub record Reached (b i : ℕ) (records : List Record) (table : List ℕ) : Type 0 where
+  pub a-block : b < 128
+  pub a-subset : i < real .size b
+  pub before : HoldBefore b records table
+  pub own : Own b (recordIn records b)
+  pub earlier : (j : ℕ) → j < i → Reads b (recordIn records b) table j

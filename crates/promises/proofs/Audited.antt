@@ -20,16 +20,17 @@ use Rattle.blocks.specs.Real.{real}
 use Rattle.blocks.proofs.Real.{laws}
 use Rattle.blocks.proofs.Board.{seed-used, lent-used, seed-offsets, lent-offsets, never-4, lent-never-4}
 use Rattle.gen_magic.specs.declared.Record.{Record}
-use Rattle.gen_magic.specs.Builds.{slots, noRecord, recordAt, Left, ended, keptIf, fromSeed, fromLent}
+use Rattle.gen_magic.specs.Builds.{slots, noRecord, Left, ended, keptIf, fromSeed, fromLent, recordIn, recordOf}
 use Rattle.gen_magic.proofs.Came.{seed-success, lent-success, seed-refused, lent-refused}
 use Rattle.magic.proofs.Accepts.{accepts-only, accepts}
-use Rattle.magic.proofs.Attacks.{look-up-attack, recordsOf, built-holds}
+use Rattle.magic.proofs.Refuses as Refuses
+use Rattle.magic.proofs.Attacks.{look-up-attack, built-holds}
 use Rattle.promises.specs.Audited.{Accepted, Audited, Limits}
 
 -- ---- the audit
 
 accepted : (left : Left) (len : ℕ) (s : State) → left ≡ ended len (done s) → Right real len s → Accepted left
-accepted left len s e h = subst Accepted (sym e) (accepts (recordsOf len s h) _ (built-holds len s h))
+accepted left len s e h = subst Accepted (sym e) (accepts (shown 128 (recordOf s)) _ (built-holds len s h))
 
 pub audited : Audited
 audited =
@@ -41,6 +42,10 @@ audited =
       accepts-lent = λ multipliers table marks e.
           let d = lent-success multipliers table marks e in
           accepted _ (length table) (d .state) (d .left) (lent-right real laws _ (length table) (d .state) (d .is));
+      refuses-8 = Refuses.refuses-8;
+      refuses-7 = Refuses.refuses-7;
+      refuses-11 = Refuses.refuses-11;
+      refuses-only = Refuses.no-other;
       after-acceptance = λ records table x e kind sq blockers hk hs hb.
           look-up-attack records table (accepts-only records table x e .0) kind sq blockers hk hs hb ∙ ap gives (sym (walk-attack kind sq hk hs blockers));
     }
@@ -49,7 +54,7 @@ audited =
 
 -- what holds of zeros and of each success holds of what a build leaves, whatever its arguments
 module _ (P : ℕ → List Record → Type 0) (zeros : P 0 (replicate 128 noRecord)) where
-  of-outcome : (len : ℕ) (o : Outcome) → ((s : State) → o ≡ done s → P (s .end) (shown 128 (λ b. recordAt b (s .taken b .multiplier) (s .offset b)))) → P (ended len o .used) (ended len o .records)
+  of-outcome : (len : ℕ) (o : Outcome) → ((s : State) → o ≡ done s → P (s .end) (shown 128 (recordOf s))) → P (ended len o .used) (ended len o .records)
   of-outcome len (done s) h = h s refl
   of-outcome len (refused n b) h = zeros
 
@@ -57,27 +62,27 @@ module _ (P : ℕ → List Record → Type 0) (zeros : P 0 (replicate 128 noReco
   of-kept true n table marks x h = zeros
   of-kept false n table marks x h = h
 
-  of-seed : (seed budget : ℕ) (table marks : List ℕ) → ((s : State) → seedBuild real (candidate seed) budget (length table) ≡ done s → P (s .end) (shown 128 (λ b. recordAt b (s .taken b .multiplier) (s .offset b)))) → P (fromSeed seed budget table marks .used) (fromSeed seed budget table marks .records)
+  of-seed : (seed budget : ℕ) (table marks : List ℕ) → ((s : State) → seedBuild real (candidate seed) budget (length table) ≡ done s → P (s .end) (shown 128 (recordOf s))) → P (fromSeed seed budget table marks .used) (fromSeed seed budget table marks .records)
   unfolding fromSeed
   of-seed seed budget table marks h = of-kept (ltb 16777216 budget) 10 table marks _ (of-kept (not (eqb (length table) (length marks))) 3 table marks _ (of-outcome (length table) _ h))
 
-  of-lent : (multipliers table marks : List ℕ) → ((s : State) → lentBuild real (slots multipliers) (length table) ≡ done s → P (s .end) (shown 128 (λ b. recordAt b (s .taken b .multiplier) (s .offset b)))) → P (fromLent multipliers table marks .used) (fromLent multipliers table marks .records)
+  of-lent : (multipliers table marks : List ℕ) → ((s : State) → lentBuild real (slots multipliers) (length table) ≡ done s → P (s .end) (shown 128 (recordOf s))) → P (fromLent multipliers table marks .used) (fromLent multipliers table marks .records)
   unfolding fromLent
   of-lent multipliers table marks h = of-kept (not (eqb (length multipliers) 128)) 9 table marks _ (of-kept (not (eqb (length table) (length marks))) 3 table marks _ (of-outcome (length table) _ h))
 
 -- the offset of one block, any number
 abbrev Low : ℕ → ℕ → List Record → Type 0
-Low b used records = getD records b noRecord .offset < 2 ^ 32
+Low b used records = recordIn records b .offset < 2 ^ 32
 
 no-offset : (b : ℕ) → Low b 0 (replicate 128 noRecord)
 no-offset b = subst (λ (r : Record). r .offset < 2 ^ 32) (sym (getD-same 128 noRecord b)) (omega arith)
 
-offset-low : (s : State) → ((b : ℕ) → b < 128 → s .offset b < 2 ^ 32) → (b : ℕ) → Low b (s .end) (shown 128 (λ b. recordAt b (s .taken b .multiplier) (s .offset b)))
+offset-low : (s : State) → ((b : ℕ) → b < 128 → s .offset b < 2 ^ 32) → (b : ℕ) → Low b (s .end) (shown 128 (recordOf s))
 offset-low s h b = go (decLt b 128)
   where
-    go : Dec (b < 128) → Low b (s .end) (shown 128 (λ b. recordAt b (s .taken b .multiplier) (s .offset b)))
-    go (yes l) = subst (λ (r : Record). r .offset < 2 ^ 32) (sym (getD-shown 128 b (λ b. recordAt b (s .taken b .multiplier) (s .offset b)) noRecord l)) (h b l)
-    go (no g) = subst (λ (r : Record). r .offset < 2 ^ 32) (sym (List·getD-eq-default (shown 128 (λ b. recordAt b (s .taken b .multiplier) (s .offset b))) noRecord (omega (arith, g, length-shown 128 (λ b. recordAt b (s .taken b .multiplier) (s .offset b)))))) (omega arith)
+    go : Dec (b < 128) → Low b (s .end) (shown 128 (recordOf s))
+    go (yes l) = subst (λ (r : Record). r .offset < 2 ^ 32) (sym (getD-shown 128 b (recordOf s) noRecord l)) (h b l)
+    go (no g) = subst (λ (r : Record). r .offset < 2 ^ 32) (sym (List·getD-eq-default (shown 128 (recordOf s)) noRecord (omega (arith, g, length-shown 128 (recordOf s))))) (omega arith)
 
 pub limits : Limits
 limits =

@@ -17,8 +17,8 @@ use Rattle.packing.proofs.Exactly.{exactly-when, after-offset}
 use Rattle.blocks.specs.Real.{real}
 use Rattle.blocks.proofs.Board.{room-63, spent-64, room-0, first-place, second-place}
 use Rattle.gen_magic.specs.declared.Record.{Record}
-use Rattle.gen_magic.specs.Builds.{noRecord, recordAt, Left, ended, keptIf, fromSeed}
-use Rattle.gen_magic.proofs.Came.{seed-is, seed-success}
+use Rattle.gen_magic.specs.Builds.{noRecord, Left, ended, keptIf, fromSeed, recordOf}
+use Rattle.gen_magic.proofs.Came.{seed-success, seed-refuses}
 use Rattle.promises.specs.Demands.{Succeeds}
 use Rattle.promises.specs.Examples.{offsetAt}
 use Rattle.promises.proofs.Demand1.{demand-1}
@@ -26,7 +26,7 @@ use Rattle.promises.proofs.Demand1.{demand-1}
 -- a build in so many slots
 says : (seed budget len n : ℕ) (table marks : List ℕ) → budget ≤ 16777216 → length table ≡ len → length marks ≡ len → seedBuild real (candidate seed) budget len ≡ refused n 0 → fromSeed seed budget table marks .says ≡ refuses n (0 ∷ [])
 says seed budget len n table marks h et em e =
-    ap (λ (l : Left). l .says) (seed-is seed budget table marks h (et ∙ sym em) ∙ ap (ended (length table)) (ap (seedBuild real (candidate seed) budget) et ∙ e))
+    seed-refuses seed budget n 0 table marks h (et ∙ sym em) (ap (seedBuild real (candidate seed) budget) et ∙ e)
 
 pub in-63 : (seed budget : ℕ) (table marks : List ℕ) → budget ≤ 16777216 → length table ≡ 63 → length marks ≡ 63 → fromSeed seed budget table marks .says ≡ refuses 4 (0 ∷ [])
 in-63 seed budget table marks h et em = says seed budget 63 4 table marks h et em (room-63 (candidate seed) budget)
@@ -51,7 +51,7 @@ on-top seed budget table marks e =
     at : (s : State) → fromSeed seed budget table marks ≡ ended (length table) (done s) → (b : ℕ) → b < 128 → offsetAt (fromSeed seed budget table marks) b ≡ s .offset b
     at s q b h =
         ap (λ (l : Left). offsetAt l b) q
-        ∙ ap (λ (r : Record). r .offset) (getD-shown 128 b (λ b. recordAt b (s .taken b .multiplier) (s .offset b)) noRecord h)
+        ∙ ap (λ (r : Record). r .offset) (getD-shown 128 b (recordOf s) noRecord h)
 
 -- the largest budget, and one above
 pub taken-at-the-limit : (seed : ℕ) (table marks : List ℕ) → fromSeed seed 16777216 table marks .says ≡ refuses 10 [] → ⊥

@@ -8,6 +8,7 @@ use mathlib.Core.Logic.{_⊎_, inl, inr, _↔_}
 use native.Mathlib.Nat.{not-suc-le-zero, le-of-suc-le-suc, eq-or-lt-of-le}
 use borrow.Author.Tests.{eq-eqb}
 use lib.ListN.{length, getD}
+use Rattle.bits.specs.Shown.{shown}
 use Rattle.bits.proofs.Shown.{getD-shown}
 use Rattle.board.specs.Board.{attack}
 use Rattle.board.proofs.Attack.{walk-attack}
@@ -25,9 +26,9 @@ use Rattle.packing.proofs.Right.{seed-right, lent-right}
 use Rattle.blocks.specs.Real.{real}
 use Rattle.blocks.proofs.Real.{laws}
 use Rattle.gen_magic.specs.declared.Record.{Record}
-use Rattle.gen_magic.specs.Builds.{slots, recordAt, noRecord, Left, ended, fromSeed, fromLent}
+use Rattle.gen_magic.specs.Builds.{slots, recordAt, noRecord, Left, ended, fromSeed, fromLent, recordIn, recordOf}
 use Rattle.gen_magic.proofs.Came.{seed-is, lent-is, seed-success, lent-success}
-use Rattle.magic.proofs.Attacks.{look-up-attack, recordsOf, built-holds}
+use Rattle.magic.proofs.Attacks.{look-up-attack, built-holds}
 use Rattle.promises.specs.Demands.{Succeeds, Allowed, LooksUp, OneAnswer, Demand2}
 
 module _ (kind sq blockers : ℕ) (hk : kind < 2) (hs : sq < 64) (hb : blockers < 2 ^ 64) where
@@ -40,7 +41,7 @@ module _ (kind sq blockers : ℕ) (hk : kind < 2) (hs : sq < 64) (hb : blockers 
   looks-up : (left : Left) (len : ℕ) (s : State) → left ≡ ended len (done s) → Right real len s → LooksUp left kind sq blockers
   looks-up left len s e h =
       subst (λ (l : Left). LooksUp l kind sq blockers) (sym e)
-      (look-up-attack (recordsOf len s h) _ (built-holds len s h) kind sq blockers hk hs hb)
+      (look-up-attack (shown 128 (recordOf s)) _ (built-holds len s h) kind sq blockers hk hs hb)
 
   one-answer : OneAnswer kind sq blockers
   one-answer =
@@ -78,14 +79,14 @@ first-free b s p = (
 )
 
 block-by-block : (seed budget : ℕ) (table marks : List ℕ) → Allowed budget table marks → (position : ℕ → ℕ) → EachFirst real (candidate seed) budget (length table) position 128 → (b : ℕ) → b < 128
-    → (getD (fromSeed seed budget table marks .records) b noRecord ≡ recordAt b (candidate seed (position b)) (place real b (after real (takenBy (candidate seed) position) b)))
+    → (recordIn (fromSeed seed budget table marks .records) b ≡ recordAt b (candidate seed (position b)) (place real b (after real (takenBy (candidate seed) position) b)))
     × (slots (fromSeed seed budget table marks .counts) b ≡ suc (position b))
 block-by-block seed budget table marks a position w b h =
     let taken : ℕ → Taken = takenBy (candidate seed) position in
     let s : State = after real taken 128 in
     let e = takes-first seed budget table marks a position w in
     let t : s .taken b ≡ taken b = after-taken real taken 128 b h in (
-      ap (λ (l : Left). getD (l .records) b noRecord) e ∙ getD-shown 128 b (λ b. recordAt b (s .taken b .multiplier) (s .offset b)) noRecord h
+      ap (λ (l : Left). recordIn (l .records) b) e ∙ getD-shown 128 b (recordOf s) noRecord h
           ∙ ap₂ (λ (x : Taken) (o : ℕ). recordAt b (x .multiplier) o) t (after-offset real taken 128 b h),
       ap (λ (l : Left). slots (l .counts) b) e ∙ getD-shown 128 b (λ b. s .taken b .count) 0 h ∙ ap (λ (x : Taken). x .count) t,
     )

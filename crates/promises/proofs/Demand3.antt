@@ -2,16 +2,15 @@
 -- Assumes nothing.
 use Prim.Native.Nat.{ℕ, _≤_, _<_}
 use mathlib.Core.Path.{_≡_, refl, sym, ap, _∙_, subst, subst₂}
-use mathlib.Core.List.{List, _∷_, []}
+use mathlib.Core.List.{List}
 use mathlib.Core.Logic.{_↔_}
 use native.Mathlib.Omega.{arith}
 use native.Mathlib.Decide.{decLt}
 use lib.ListN.{length, take, List·getD-eq-default}
-use Rattle.refusal.specs.Paper.{refuses}
 use Rattle.bits.specs.Shown.{shown}
 use Rattle.bits.proofs.Shown.{length-shown, getD-shown, take-shown}
 use Rattle.splitmix.specs.SplitMix.{candidate}
-use Rattle.packing.specs.Pack.{State, done, refused, seedBuild}
+use Rattle.packing.specs.Pack.{State, done, seedBuild}
 use Rattle.packing.specs.Promised.{Right, mostAttempts}
 use Rattle.packing.proofs.Largest.{largest-cong}
 use Rattle.packing.proofs.Right.{seed-right}
@@ -19,7 +18,7 @@ use Rattle.packing.proofs.Seed.{one-success, needs-budget, needs-room, enough, 
 use Rattle.blocks.specs.Real.{real}
 use Rattle.blocks.proofs.Real.{laws}
 use Rattle.gen_magic.specs.Builds.{slots, Left, ended, fromSeed}
-use Rattle.gen_magic.proofs.Came.{seed-is, SeedSuccess, seed-success, seed-refused}
+use Rattle.gen_magic.proofs.Came.{seed-is, SeedSuccess, seed-success, seed-refused, seed-refuses}
 use Rattle.promises.specs.Demands.{Succeeds, Allowed, Same, largestCount, Demand3}
 
 -- ---- what one state leaves in two lengths
@@ -87,11 +86,6 @@ module _ (seed budget : ℕ) (table marks : List ℕ) (d : SeedSuccess seed budg
       subst₂ Same (sym (d .left)) (sym (left-is a e))
       (same (length table) (length table′) (d .state) (seed-right real laws (candidate seed) budget (length table) (d .state) (d .is)) (seed-right real laws (candidate seed) budget′ (length table′) (d .state) e))
 
--- ---- refusals that stand
-
-says-again : (seed budget n b : ℕ) (table marks : List ℕ) → budget ≤ 16777216 → length table ≡ length marks → seedBuild real (candidate seed) budget (length table) ≡ refused n b → fromSeed seed budget table marks .says ≡ refuses n (b ∷ [])
-says-again seed budget n b table marks h e q = ap (λ (l : Left). l .says) (seed-is seed budget table marks h e ∙ ap (ended (length table)) q)
-
 pub demand-3 : Demand3
 demand-3 =
     record {
@@ -99,9 +93,9 @@ demand-3 =
       always-same = λ seed budget budget′ table marks table′ marks′ e e′. always-same seed budget table marks (seed-success seed budget table marks e) budget′ table′ marks′ (seed-success seed budget′ table′ marks′ e′);
       room-stands = λ seed budget budget′ block table marks table′ marks′ more a same-length e.
           let r = seed-refused seed budget 4 block table marks e in
-          says-again seed budget′ 4 block table′ marks′ (a .budget-allowed) (a .one-length)
+          seed-refuses seed budget′ 4 block table′ marks′ (a .budget-allowed) (a .one-length)
           (ap (seedBuild real (candidate seed) budget′) same-length ∙ room-stands real (candidate seed) budget budget′ (length table) block more (r .2));
       spent-stands = λ seed budget block table marks table′ marks′ more one e.
           let r = seed-refused seed budget 5 block table marks e in
-          says-again seed budget 5 block table′ marks′ (r .0) one (spent-stands real (candidate seed) budget (length table) (length table′) block more (r .2));
+          seed-refuses seed budget 5 block table′ marks′ (r .0) one (spent-stands real (candidate seed) budget (length table) (length table′) block more (r .2));
     }

@@ -14,7 +14,7 @@ use Rattle.splitmix.specs.SplitMix.{candidate}
 use Rattle.packing.specs.Pack.{State, place, done}
 use Rattle.packing.specs.Promised.{Placed, after, takenBy, EachFirst, EachClean, largest}
 use Rattle.blocks.specs.Real.{real}
-use Rattle.gen_magic.specs.Builds.{slots, recordAt, noRecord, Left, empty, ended, fromSeed, fromLent}
+use Rattle.gen_magic.specs.Builds.{slots, recordAt, Left, empty, ended, fromSeed, fromLent, recordIn}
 use Rattle.magic.specs.LookUp.{lookUp}
 
 -- a build succeeded
@@ -52,7 +52,7 @@ pub record Demand1 : Type 0 where
 
 -- the look-up with a block's own record, in what a build left
 abbrev pub LooksUp : Left → ℕ → ℕ → ℕ → Type 0
-LooksUp left kind sq blockers = lookUp kind sq blockers (getD (left .records) (blockOf kind sq) noRecord) (left .table) ≡ gives (attack kind sq blockers)
+LooksUp left kind sq blockers = lookUp kind sq blockers (recordIn (left .records) (blockOf kind sq)) (left .table) ≡ gives (attack kind sq blockers)
 
 -- "For each square, rook or bishop, and any 64 blocker bits, ray walk, look-up in a filled PEXT table and look-up in a
 -- built magic table give the attack set of FIDE Laws 3.2, 3.3 and 3.5, first blocker included, and equal the crate's."
@@ -76,7 +76,7 @@ pub record Demand2 : Type 0 where
       → fromSeed seed budget table marks ≡ ended (length table) (done (after real (takenBy (candidate seed) position) 128))
   -- and block by block: its record has that candidate and that place, its count is the candidate's position from 1
   pub block-by-block : (seed budget : ℕ) (table marks : List ℕ) → Allowed budget table marks → (position : ℕ → ℕ) → EachFirst real (candidate seed) budget (length table) position 128 → (b : ℕ) → b < 128
-      → (getD (fromSeed seed budget table marks .records) b noRecord ≡ recordAt b (candidate seed (position b)) (place real b (after real (takenBy (candidate seed) position) b)))
+      → (recordIn (fromSeed seed budget table marks .records) b ≡ recordAt b (candidate seed (position b)) (place real b (after real (takenBy (candidate seed) position) b)))
       × (slots (fromSeed seed budget table marks .counts) b ≡ suc (position b))
   -- 01, "Packing": "The build from lent multipliers does the same with 128 given numbers, .. testing collisions only"
   pub lent-exactly : (multipliers table marks : List ℕ) → length multipliers ≡ 128 → length table ≡ length marks

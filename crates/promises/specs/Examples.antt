@@ -7,7 +7,7 @@ use Rattle.refusal.specs.Paper.{refuses}
 use Rattle.bits.specs.Intel.{pext}
 use Rattle.board.specs.Board.{rays, mask, attack}
 use Rattle.bmis.specs.Bmis.{offsetOf, entriesTo}
-use Rattle.gen_magic.specs.Builds.{noRecord, Left, fromSeed}
+use Rattle.gen_magic.specs.Builds.{Left, fromSeed, recordIn}
 use Rattle.promises.specs.Demands.{Succeeds}
 
 -- every entry holds
@@ -17,7 +17,7 @@ All (P ∷ l) = P × All l
 
 -- where a build put a block
 abbrev pub offsetAt : Left → ℕ → ℕ
-offsetAt left b = getD (left .records) b noRecord .offset
+offsetAt left b = recordIn (left .records) b .offset
 
 abbrev pub table : List (Type 0)
 table =

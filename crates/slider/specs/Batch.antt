@@ -9,7 +9,7 @@ use Rattle.board.specs.Board.{attack, onBlock}
 use Rattle.board.specs.Blocks.{blockOf}
 use Rattle.bmis.specs.Bmis as Bmis
 use Rattle.gen_magic.specs.declared.Record.{Record}
-use Rattle.gen_magic.specs.Builds.{slots, noRecord}
+use Rattle.gen_magic.specs.Builds.{slots, recordIn}
 use Rattle.magic.specs.LookUp.{lookUp}
 use Rattle.slider.specs.Flat.{answerOf}
 
@@ -40,4 +40,4 @@ pextAsked table kinds squares blockers i =
 abbrev pub movesAsked : List Record → List ℕ → List ℕ → List ℕ → List ℕ → ℕ → Said ℕ
 movesAsked records table kinds squares blockers i =
     onBlock (slots kinds i) (slots squares i)
-    (lookUp (slots kinds i) (slots squares i) (slots blockers i) (getD records (blockOf (slots kinds i) (slots squares i)) noRecord) table)
+    (lookUp (slots kinds i) (slots squares i) (slots blockers i) (recordIn records (blockOf (slots kinds i) (slots squares i))) table)

@@ -7,7 +7,7 @@ use Rattle.refusal.specs.Paper.{Said, gives, andThen}
 use Rattle.board.specs.Blocks.{kindOf, squareOf}
 use Rattle.board.proofs.Blocks.{kind-lt, square-lt}
 use Rattle.board.proofs.Sizes.{size-high}
-use Rattle.gen_magic.specs.Builds.{noRecord}
+use Rattle.gen_magic.specs.Builds.{recordIn}
 use Rattle.magic.specs.Audit.{checked, reachOf, auditSays}
 use borrow.Author.Needs.{needs}
 use Rattle.magic.proofs.audit.Statement.{statement}
@@ -38,7 +38,7 @@ enum-known-refusal c = search needs
 returns : tie.Need-returns
 unfolding auditSays reachOf
 returns c = let a = c .before .before .before .before .before .before .before .args in
-    ap (λ (n : ℕ). gives (getD (a .t1) 127 noRecord .offset + n)) (c .size-at .ensures)
+    ap (λ (n : ℕ). gives (recordIn (a .t1) 127 .offset + n)) (c .size-at .ensures)
     ∙ ap (λ (x : Said Unit). andThen x (λ _. gives (reachOf (a .t1)))) (ap checked (sym (c .before .before .before .enum-told .given .1)) ∙ c .before .before .before .before .before .check-blocks .ensures)
 
 returns-2 : tie.Need-returns-2

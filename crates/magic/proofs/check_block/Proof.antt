@@ -8,13 +8,8 @@ use Rattle.refusal.specs.Paper.{gives}
 use Rattle.magic.specs.Audit.{exact, inTurn, subsetSays, checked}
 use Rattle.magic.proofs.Audits.{turn-none, turn-more, turn-stops, exact-range, block-8, block-in}
 use borrow.Author.Needs.{needs}
-use mathlib.Core.Path.{_≡_}
-use Rattle.refusal.specs.Paper.{gives}
-use Rattle.magic.specs.Audit.{exact, inTurn, subsetSays}
 use Rattle.magic.proofs.check_block.Statement.{statement}
 use Rattle.magic.proofs.check_block.Tie as tie
-
--- `magic::check_block` meets its contract: the subsets before this one hold.
 
 abbrev Inv-loop : tie.InvT-loop
 Inv-loop block magic table size subset₀ subset = (subset ≤ size) × (inTurn subset (subsetSays block magic table) ≡ gives tt) × (exact block magic ≡ true)

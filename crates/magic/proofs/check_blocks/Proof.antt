@@ -5,14 +5,14 @@ use mathlib.Core.Path.{_≡_, sym, ap, _∙_}
 use native.Mathlib.Omega.{arith}
 use lib.ListN.{getD}
 use Rattle.refusal.specs.Paper.{gives}
-use Rattle.gen_magic.specs.Builds.{noRecord}
+use Rattle.gen_magic.specs.Builds.{recordIn}
 use Rattle.magic.specs.Audit.{inTurn, blockSays, blocksSay, checked}
 use Rattle.magic.proofs.Audits.{turn-none, turn-more, turn-stops}
 use Rattle.magic.proofs.check_blocks.Statement.{statement}
 use Rattle.magic.proofs.check_blocks.Tie as tie
 
 abbrev Inv-loop : tie.InvT-loop
-Inv-loop table records block₀ block = (block ≤ 128) × (inTurn block (λ b. blockSays b (getD records b noRecord) table) ≡ gives tt)
+Inv-loop table records block₀ block = (block ≤ 128) × (inTurn block (λ b. blockSays b (recordIn records b) table) ≡ gives tt)
 
 abbrev μ-loop : tie.MeasureT-loop
 μ-loop table records block₀ block = 128 - block
@@ -52,7 +52,7 @@ returns c =
     let k = c .before .before .before in
     let l = k .before .before .before .loop in
     let a = k .before .before .before .before .before .args in
-    sym (turn-stops (λ b. blockSays b (getD (a .t1) b noRecord) (a .table .now)) (l .block) 128 _ _ (omega arith) (l .inv .1) (sym (k .check-block .ensures) ∙ ap checked (c .before .refusal .given .1)))
+    sym (turn-stops (λ b. blockSays b (recordIn (a .t1) b) (a .table .now)) (l .block) 128 _ _ (omega arith) (l .inv .1) (sym (k .check-block .ensures) ∙ ap checked (c .before .refusal .given .1)))
 
 returns-2 : tie.Need-returns-2 Inv-loop μ-loop
 unfolding blocksSay
@@ -60,7 +60,7 @@ returns-2 c =
     let l = c .before .loop in
     let a = c .before .before .before .args in
     let e : l .block ≡ 128 = omega arith in
-    sym (l .inv .1) ∙ ap (λ (n : ℕ). inTurn n (λ b. blockSays b (getD (a .t1) b noRecord) (a .table .now))) e
+    sym (l .inv .1) ∙ ap (λ (n : ℕ). inTurn n (λ b. blockSays b (recordIn (a .t1) b) (a .table .now))) e
 
 pub check-blocks-spec : {M : Type 1} → statement M
 check-blocks-spec =

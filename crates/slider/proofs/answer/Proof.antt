@@ -4,7 +4,6 @@ use mathlib.Core.Path.{sym, ap, _∙_}
 use Rattle.refusal.specs.declared.Answer.{Answer}
 use Rattle.refusal.specs.Paper.{said}
 use Rattle.slider.specs.Flat.{answerOf}
-use mathlib.Core.Path.{sym, ap, _∙_}
 use borrow.Author.Needs.{needs}
 use Rattle.slider.proofs.answer.Statement.{statement}
 use Rattle.slider.proofs.answer.Tie as tie

@@ -5,7 +5,7 @@ use native.Mathlib.Omega.{arith}
 use borrow.Author.Needs.{needs}
 use lib.ListN.{length, getD}
 use Rattle.board.proofs.Blocks.{block-cong}
-use Rattle.gen_magic.specs.Builds.{noRecord}
+use Rattle.gen_magic.specs.Builds.{recordIn}
 use Rattle.magic.specs.LookUp.{lookUp}
 use Rattle.slider.specs.Flat.{answerOf}
 use Rattle.slider.specs.Batch.{movesAsked}
@@ -86,7 +86,7 @@ loop-again : tie.Need-loop-again Inv-loop μ-loop
 loop-again c =
     let l = c .before .before .before .before .before .before .before .before .before in
     let a = l .before .before .before .before .before .before .before .before .before .before .before .before .args in
-    going-more (l .loop .inv) (c .slider-moves .result) (c .slider-moves .ensures ∙ ap answerOf (block-cong (getD (a .kinds .now) (l .loop .i) 0) (getD (a .squares .now) (l .loop .i) 0) _ _ (λ hk hs. ap (λ (b : ℕ). lookUp (getD (a .kinds .now) (l .loop .i) 0) (getD (a .squares .now) (l .loop .i) 0) (getD (a .blockers .now) (l .loop .i) 0) (getD (a .set .records) b noRecord) (a .table .now)) (c .before .before .before .before .before .block-at .ensures .1 hk hs)))) (c .before .before .before .before .before .before .before .before .loop-test .taken) (omega (arith, l .before .fewer4 .ensures, l .before .before .fewer3 .ensures)) (omega (arith, l .before .fewer4 .ensures, l .before .before .fewer3 .ensures))
+    going-more (l .loop .inv) (c .slider-moves .result) (c .slider-moves .ensures ∙ ap answerOf (block-cong (getD (a .kinds .now) (l .loop .i) 0) (getD (a .squares .now) (l .loop .i) 0) _ _ (λ hk hs. ap (λ (b : ℕ). lookUp (getD (a .kinds .now) (l .loop .i) 0) (getD (a .squares .now) (l .loop .i) 0) (getD (a .blockers .now) (l .loop .i) 0) (recordIn (a .set .records) b) (a .table .now)) (c .before .before .before .before .before .block-at .ensures .1 hk hs)))) (c .before .before .before .before .before .before .before .before .loop-test .taken) (omega (arith, l .before .fewer4 .ensures, l .before .before .fewer3 .ensures)) (omega (arith, l .before .fewer4 .ensures, l .before .before .fewer3 .ensures))
 
 same-length : tie.Need-same-length Inv-loop μ-loop
 same-length c = search needs
