@@ -1,0 +1,21 @@
+-- None of these wrong answers is what a statement gives: computed from the definitions.
+-- Assumes nothing.
+use Rattle.bits.specs.Intel.{pext, pdep}
+use Rattle.bits.specs.Set.{least}
+use Rattle.bits.specs.Shown.{sum}
+use Rattle.board.specs.Board.{rays, mask, attack}
+use Rattle.board.specs.Blocks.{blockOf, kindOf, squareOf, bitsOf, sizeOf, shiftOf, subset}
+use Rattle.bmis.specs.Bmis as Bmis
+use Rattle.bmis.specs.Bmis.{sizeAt, offsetOf, partOf}
+use Rattle.packing.specs.Pack.{firstPassing, takenAt, bySearch}
+use Rattle.splitmix.specs.SplitMix.{advanced, mixed, after, output, candidateOf, stateAt, candidate}
+use Rattle.candidates.specs.OneBlock.{searchOf}
+use Rattle.magic.specs.LookUp.{slotIn, lookUp}
+use Rattle.magic.specs.Audit.{inTurn, exact, blockSays, blocksSay, auditSays}
+use Rattle.refuted.specs.Wrong.{Refuted}
+use Rattle.refuted.specs.Board.{wrongs}
+use Rattle.refuted.proofs.Differ.{alike, differ, refuted}
+
+pub none-holds : Refuted wrongs
+unfolding alike differ pext pdep least sum rays mask attack blockOf kindOf squareOf bitsOf sizeOf shiftOf subset sizeAt offsetOf partOf Bmis.lookUp firstPassing takenAt bySearch advanced mixed after output candidateOf stateAt candidate searchOf slotIn lookUp inTurn exact blockSays blocksSay auditSays
+none-holds = refuted wrongs tt

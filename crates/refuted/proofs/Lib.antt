@@ -1,0 +1,4 @@
+pub mod Differ
+pub mod Ground
+pub mod Board
+pub mod Border

@@ -1,0 +1,4 @@
+pub mod Wrong
+pub mod Ground
+pub mod Board
+pub mod Border
