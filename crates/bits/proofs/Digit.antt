@@ -1,6 +1,6 @@
 -- Laws of the digits of a number: shifts, remainders, joining, and equality digit by digit.
 -- Assumes nothing.
-use mathlib.Core.Path.{_≡_, refl, sym, ap, ap₂, _∙_, subst}
+use mathlib.Core.Path.{_≡_, sym, ap, ap₂, _∙_, subst}
 use mathlib.Core.Logic.{_⊎_, inl, inr}
 use Prim.Native.Nat.{ℕ, zero, suc, _+_, _-_, _*_, _/_, _%_, _^_, _≤_, _<_, zero-le}
 use native.Mathlib.Nat.{le-refl, le-of-suc-le-suc, zero-lt-suc, lt-of-lt-of-le, mod-lt, mod-eq-of-lt, div-eq-of-lt, div-one, one-mul, eq-or-lt-of-le, not-suc-le-zero}
@@ -8,7 +8,7 @@ use native.Mathlib.Numerals.{one-add}
 use native.Mathlib.Omega.{arith}
 use lib.Dec.{lit<}
 use lib.Arith.{lt-one, digits-lt}
-use lib.Pow.{pow-pos, pow-mono, pow-add, high, low, shr-shr, mod-pow-add, mod-mod-pow, field, shl-exact, shr-lt}
+use lib.Pow.{pow-mono, pow-add, high, low, shr-shr, mod-pow-add, mod-mod-pow, field, shl-exact, shr-lt}
 use Rattle.bits.specs.Set.{bit, fromBits}
 
 pub bit-lt : (n t : ℕ) → bit n t < 2

@@ -1,15 +1,14 @@
 -- PEXT and PDEP in the form that proofs use: digit by digit, the last mask digit outermost, with Intel's k as `countBelow`. Intel's loops give these.
 -- Assumes nothing.
-use mathlib.Core.Path.{_≡_, refl, sym, ap, ap₂, _∙_, subst}
+use mathlib.Core.Path.{_≡_, sym, ap, ap₂, _∙_, subst}
 use mathlib.Core.Logic.{_⊎_, inl, inr}
-use Prim.Native.Nat.{ℕ, zero, suc, _+_, _-_, _*_, _%_, _^_, _≤_, _<_, min}
-use native.Mathlib.Nat.{le-refl, le-of-suc-le-suc, mod-one, add-zero, zero-add, add-comm, zero-mul, sub-zero, zero-min, min-comm, min-eq-left, eq-or-lt-of-le, not-suc-le-zero}
+use Prim.Native.Nat.{ℕ, zero, suc, _+_, _-_, _*_, _%_, _^_, _<_, min}
+use native.Mathlib.Nat.{le-refl, le-of-suc-le-suc, mod-one, add-zero, zero-add, zero-mul, zero-min, min-comm, min-eq-left, eq-or-lt-of-le, not-suc-le-zero}
 use native.Mathlib.Numerals.{add-one}
 use native.Mathlib.Omega.{arith}
-use lib.Dec.{eqb, lit<}
-use Rattle.bits.specs.Set.{bit, has, fromBits, countBelow}
-use Rattle.bits.specs.Intel.{Turn, setBit, pextTurn, pdepTurn, pextTurns, pdepTurns, pext, pdep}
-use Rattle.bits.proofs.Digit.{bit-lt, over, bit-past, bit-cat-at, bit-cat-low, cat-lt, mod-more, fromBits-lt, bit-fromBits}
+use lib.Dec.{lit<}
+use Rattle.bits.specs.Set.{bit, fromBits, countBelow}
+use Rattle.bits.proofs.Digit.{bit-lt, over, bit-cat-at, bit-cat-low, cat-lt, mod-more, fromBits-lt, bit-fromBits}
 use Rattle.bits.proofs.Count.{count-lt}
 
 -- the digits of x at the first n digits of the mask

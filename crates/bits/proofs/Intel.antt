@@ -2,7 +2,7 @@
 -- Assumes nothing.
 use mathlib.Core.Path.{_≡_, refl, sym, ap, ap₂, _∙_}
 use mathlib.Core.Bool.{Bool, true, false}
-use Prim.Native.Nat.{ℕ, zero, suc, _+_, _-_, _*_, _^_, _≤_, _<_, min}
+use Prim.Native.Nat.{ℕ, zero, suc, _+_, _-_, _*_, _^_, _<_, min}
 use native.Mathlib.Nat.{le-refl, le-of-suc-le-suc, add-zero, zero-add, add-comm, zero-mul, sub-zero, zero-min, min-comm, min-eq-left}
 use lib.Dec.{eqb}
 use Rattle.bits.specs.Set.{bit, has, fromBits, countBelow}

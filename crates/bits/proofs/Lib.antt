@@ -13,3 +13,4 @@ pub mod Parts
 pub mod Least
 pub mod Turn
 pub mod Halves
+pub mod SameList

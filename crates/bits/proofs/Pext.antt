@@ -1,17 +1,17 @@
 -- The laws of PEXT and PDEP over any mask. Callers use these, and not the definitions' texts.
 -- Assumes nothing.
-use mathlib.Core.Path.{_≡_, refl, sym, ap, ap₂, _∙_, subst}
+use mathlib.Core.Path.{_≡_, refl, sym, ap, _∙_, subst}
 use mathlib.Core.Bool.{Bool, true, false, _&&_}
-use Prim.Native.Nat.{ℕ, zero, suc, _+_, _%_, _^_, _≤_, _<_, min}
-use native.Mathlib.Nat.{lt-of-le-of-lt, mod-eq-of-lt, min-comm, zero-min}
+use Prim.Native.Nat.{ℕ, zero, suc, _%_, _^_, _<_, min}
+use native.Mathlib.Nat.{lt-of-le-of-lt, min-comm, zero-min}
 use lib.Dec.{eqb}
 use lib.Bits.{bitAnd, and-le-l}
 use Rattle.bits.specs.Set.{bit, has, countBelow, count}
 use Rattle.bits.specs.Intel.{pext, pdep}
 use Rattle.bits.proofs.Digit.{bit-lt, over, ext}
-use Rattle.bits.proofs.Sets.{two, bit-and, has-and, has-ext}
+use Rattle.bits.proofs.Sets.{bit-and, has-and, has-ext}
 use Rattle.bits.proofs.Count.{nth}
-use Rattle.bits.proofs.Forms.{packed, spread, packed-lt, bit-packed, packed-spread, spread-lt, bit-spread}
+use Rattle.bits.proofs.Forms.{packed-lt, bit-packed, packed-spread, spread-lt, bit-spread}
 use Rattle.bits.proofs.Intel.{pext-is, pdep-is}
 
 pub extract-lt : (x m : ℕ) → pext x m < 2 ^ count m

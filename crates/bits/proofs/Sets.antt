@@ -1,8 +1,7 @@
 -- Laws of sets: which squares AND, OR, XOR, one square and `setOf` have, and equality square by square.
 -- Assumes nothing.
-use mathlib.Core.Path.{_≡_, refl, sym, ap, ap₂, _∙_}
+use mathlib.Core.Path.{_≡_, refl, sym, ap, _∙_}
 use mathlib.Core.Bool.{Bool, true, false, xor, _&&_, _||_}
-use mathlib.Core.Logic.{_⊎_, inl, inr}
 use Prim.Native.Nat.{ℕ, zero, suc, _+_, _*_, _/_, _%_, _^_, _≤_, _<_, min, max}
 use native.Mathlib.Nat.{le-refl, lt-of-le-of-lt, add-zero, one-mul, min-le-left}
 use native.Mathlib.Omega.{arith}

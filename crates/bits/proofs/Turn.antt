@@ -1,7 +1,7 @@
 -- One turn of the loops of `extract` and `deposit`, as the code has it.
 -- Assumes nothing.
 use mathlib.Core.Path.{_≡_, ap, ap₂, sym, _∙_}
-use Prim.Native.Nat.{ℕ, zero, suc, _+_, _*_, _/_, _%_, _^_, _≤_, _<_, min}
+use Prim.Native.Nat.{ℕ, zero, suc, _+_, _*_, _/_, _%_, _^_, _<_, min}
 use native.Mathlib.Nat.{zero-add, zero-min}
 use native.Mathlib.Numerals.{add-one}
 use native.Mathlib.Omega.{arith}

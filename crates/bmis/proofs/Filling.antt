@@ -1,13 +1,13 @@
 -- One turn of the fill: a block's entries in the part that follows those before it.
 -- Assumes nothing.
-use Prim.Native.Nat.{ℕ, suc, _+_, _-_, _/_, _%_, _≤_, _<_}
+use Prim.Native.Nat.{ℕ, _+_, _-_, _/_, _%_, _≤_, _<_}
 use mathlib.Core.Path.{_≡_, sym, ap, ap₂, _∙_}
 use mathlib.Core.List.{List, _++_}
 use native.Mathlib.Numerals.{add-one}
 use native.Mathlib.Omega.{arith}
 use borrow.Rule.Slice.PartMut.{putMid}
 use lib.ListN.{length, take, drop}
-use Rattle.bits.specs.Shown.{shown, sum}
+use Rattle.bits.specs.Shown.{shown}
 use Rattle.bits.proofs.Parts.{length-part, take-part}
 use Rattle.bits.proofs.Shown.{length-shown}
 use Rattle.board.specs.Blocks.{kindOf, squareOf}

@@ -1,5 +1,5 @@
 -- PEXT tables. 01, "Look-ups and audit": "PEXT: blocks in the order rook 0, bishop 0, rook 1, bishop 1, ... as in gen_all_bmis; entry i is the walk of subset i extracted through the rays, 16 bits; the look-up deposits it again, for any 107,648 entries."
-use Prim.Native.Nat.{ℕ, zero, suc, _+_, _-_, _*_, _/_, _%_}
+use Prim.Native.Nat.{ℕ, zero, suc, _+_, _*_, _/_, _%_}
 use mathlib.Core.Bool.{Bool, true, false, not}
 use mathlib.Core.List.{List, [], _++_}
 use lib.Dec.{eqb}

@@ -1,9 +1,9 @@
 -- Laws of block numbers.
 -- Assumes nothing.
-use Prim.Native.Nat.{ℕ, zero, suc, _+_, _-_, _/_, _%_, _≤_, _<_}
+use Prim.Native.Nat.{ℕ, zero, suc, _+_, _-_, _≤_, _<_}
 use mathlib.Core.Path.{_≡_, refl, ap, ap₂, _∙_}
 use native.Mathlib.Omega.{arith}
-use borrow.Author.Tests.{ltb-false}
+use borrow.Author.Tests.{ltb-false, le-ltb}
 use lib.Dec.{ltb}
 use mathlib.Core.Bool.{Bool, true, false}
 use mathlib.Core.List.{List}
@@ -20,6 +20,10 @@ pub block-bishop : (k s : ℕ) → (k ≡ 0 → ⊥) → s ≡ blockOf k s
 unfolding blockOf
 block-bishop zero s f = absurd (f refl)
 block-bishop (suc k) s f = refl
+
+-- a rook or a bishop on the board: nothing is refused
+pub on-block : {A : Type 0} (kind s : ℕ) (x : Said A) → kind < 2 → s < 64 → onBlock kind s x ≡ x
+on-block kind s x h g = ap₂ (λ (c d : Bool). refuseIf c 1 (refuseIf d 2 x)) (le-ltb 1 kind (omega arith)) (le-ltb 63 s (omega arith))
 
 pub kind-lt : (b : ℕ) → kindOf b < 2
 unfolding kindOf

@@ -1,14 +1,15 @@
 -- The crate's rays, masks, directions and mask squares are ours: computed over the board.
 -- Assumes nothing.
 use Prim.Native.Nat.{ℕ, zero, suc, _<_}
-use mathlib.Core.Path.{_≡_, refl, ap₂}
-use mathlib.Core.Bool.{Bool, true, false, _&&_}
+use mathlib.Core.Path.{_≡_}
+use mathlib.Core.Bool.{Bool, _&&_}
 use mathlib.Core.List.{List, [], _∷_}
 use mathlib.Core.Option.{Option, none, some}
 use lib.Count.{trailingZeros}
 use lib.Dec.{T, ltb, eqb, eqb→eq}
-use lib.ListN.{length, getD}
+use lib.ListN.{getD}
 use Rattle.bits.specs.Set.{has, every, countBelow, count}
+use Rattle.bits.proofs.SameList.{sameList, same-list}
 use Rattle.bits.proofs.Every.{both-l, both-r, every-at}
 use Rattle.board.specs.Board.{rays, mask}
 use Rattle.board.specs.Walk.{line}
@@ -40,19 +41,6 @@ path (suc n) m (some s) = s ∷ path n m (m s)
 -- the direction's function
 unfoldable pub direction : ℕ → ℕ → ℕ → Option ℕ
 direction k d = getD (movement k) d (λ s. none)
-
-sameList : List ℕ → List ℕ → Bool
-sameList [] [] = true
-sameList [] (u ∷ us) = false
-sameList (t ∷ ts) [] = false
-sameList (t ∷ ts) (u ∷ us) = eqb t u && sameList ts us
-
-same-list : (l m : List ℕ) → T (sameList l m) → l ≡ m
-unfolding sameList
-same-list [] [] h = refl
-same-list [] (u ∷ us) h = absurd h
-same-list (t ∷ ts) [] h = absurd h
-same-list (t ∷ ts) (u ∷ us) h = ap₂ _∷_ (eqb→eq t u (both-l (eqb t u) (sameList ts us) h)) (same-list ts us (both-r (eqb t u) (sameList ts us) h))
 
 path-test : T (everyLine (λ k s d. sameList (path 64 (direction k d) (direction k d s)) (line k d s)))
 unfolding every path direction rook-directions bishop-directions sameList line

@@ -4,12 +4,11 @@ use Prim.Native.Nat.{ℕ, zero, suc, _^_, _≤_, _<_}
 use mathlib.Core.Path.{_≡_, refl, sym, ap, ap₂, _∙_}
 use mathlib.Core.Bool.{Bool, true, false, _&&_, _||_, and-true, and-false, or-false, false≢true}
 use mathlib.Core.List.{List, map}
-use native.Mathlib.Nat.{le-refl, le-of-lt, not-suc-le-zero}
+use native.Mathlib.Nat.{le-refl, le-of-lt}
 use native.Mathlib.Omega.{arith}
 use native.Mathlib.Decide.{decLt, ℕ-discrete}
-use borrow.Author.Tests.{eq-eqb, ne-eqb, eqb-true, lt-ltb, le-ltb}
+use borrow.Author.Tests.{eq-eqb, ne-eqb, lt-ltb, le-ltb}
 use lib.Bits.{bitAnd, bitOr, or-lt, and-comm}
-use lib.Count.{ones}
 use lib.Dec.{ltb, ltb→lt, eqb}
 use lib.ListN.{getD}
 use lib.Pow.{pow-pos, pow-lt}
@@ -20,9 +19,9 @@ use Rattle.bits.proofs.Algebra.{and-square}
 use Rattle.bits.proofs.Count.{count-ones, count-lt}
 use Rattle.bits.proofs.Every.{is-true}
 use Rattle.bits.proofs.Shown.{shown-cong, map-shown}
-use Rattle.board.specs.Board.{inMask, mask, attack}
+use Rattle.board.specs.Board.{mask, attack}
 use Rattle.board.specs.Blocks.{bitsOf, sizeOf, subset}
-use Rattle.board.specs.Crate.{cond, collect, question, rays-to-questions, magic-mask, questions, answer, answers}
+use Rattle.board.specs.Crate.{cond, collect, question, rays-to-questions, questions, answer, answers}
 use Rattle.board.proofs.Attack.{has-mask, mask-lt}
 use Rattle.board.proofs.Subsets.{has-subset, subset-lt}
 use Rattle.board.proofs.CrateBoard.{Nth, nth-is, crate-mask}

@@ -1,16 +1,16 @@
 -- Lists of squares, as a direction's line is one: which squares it has, which stand before a square, and how far a walk along it goes.
 -- Assumes nothing.
-use Prim.Native.Nat.{ℕ, zero, _^_, _<_}
+use Prim.Native.Nat.{ℕ, _^_, _<_}
 use mathlib.Core.Path.{_≡_, refl, sym, ap, ap₂, _∙_}
 use mathlib.Core.Bool.{Bool, true, false, not, _&&_, _||_, false≢true, and-false}
 use mathlib.Core.List.{List, [], _∷_}
 use borrow.Author.Tests.{eqb-true}
-use lib.Bits.{bitOr, or-lt, or-zero-r}
+use lib.Bits.{bitOr, or-lt}
 use lib.Dec.{T, ltb, eqb, ltb→lt}
 use lib.Pow.{pow-pos, pow-lt}
 use Rattle.bits.specs.Set.{pick, has, every}
 use Rattle.bits.proofs.Sets.{has-or, has-pow, has-zero}
-use Rattle.bits.proofs.Every.{is-true, both-l, both-r, every-cong, every-true, every-and, every-one}
+use Rattle.bits.proofs.Every.{both-l, both-r, every-cong, every-true, every-and, every-one}
 use Rattle.board.specs.Walk.{upTo}
 
 -- t stands in the list

@@ -1,15 +1,14 @@
 -- Mask bits, sizes, shifts and slots: computed over the board.
 -- Assumes nothing.
-use Prim.Native.Nat.{ℕ, _-_, _+_, _^_, _≤_, _<_}
-use mathlib.Core.Path.{_≡_, refl, subst}
-use mathlib.Core.Bool.{Bool, _&&_, _||_}
+use Prim.Native.Nat.{ℕ, _-_, _+_, _≤_, _<_}
+use mathlib.Core.Path.{_≡_, refl}
+use mathlib.Core.Bool.{_&&_}
 use native.Mathlib.Omega.{arith}
 use lib.Dec.{T, leb, leb→le, eqb, eqb→eq}
 use lib.Pow.{pow-mono}
-use Rattle.bits.specs.Set.{pick, every}
+use Rattle.bits.specs.Set.{every}
 use Rattle.bits.specs.Shown.{sum}
 use Rattle.bits.proofs.Every.{both-l, both-r, every-at}
-use Rattle.square.specs.Square.{rankOf, fileOf}
 use Rattle.board.specs.Board.{outer}
 use Rattle.board.specs.Blocks.{bitsOf, rookBits, sizeOf, shiftOf}
 

@@ -3,7 +3,7 @@ use Prim.Native.Nat.{ℕ, zero, suc, _+_, _-_, _/_, _%_, _^_}
 use mathlib.Core.Bool.{_&&_, _||_}
 use Rattle.bits.specs.Set.{pick, has, setOf, countBelow, count}
 use Rattle.square.specs.Square.{rankOf, fileOf}
-use Rattle.board.specs.Board.{outer, rays, inMask, mask, attack}
+use Rattle.board.specs.Board.{outer, inMask, mask}
 
 -- "Block number: bishop on s is s, rook on s is 64 + s." The numbers go on past 127, as before, so that each has a block
 unfoldable pub blockOf : ℕ → ℕ → ℕ

@@ -1,6 +1,6 @@
 -- Laws of a line: a name that was read is a square of the board, what can be read is 21 bytes long and asks for a block, and how long an answer is.
 -- Assumes nothing.
-use Prim.Native.Nat.{ℕ, _-_, _≤_, _<_}
+use Prim.Native.Nat.{ℕ, _-_, _<_}
 use mathlib.Core.Path.{_≡_, refl, sym, subst}
 use mathlib.Core.Logic.{_⊎_, inl, inr}
 use mathlib.Core.Bool.{Bool, true, false, cond}
@@ -8,11 +8,12 @@ use mathlib.Core.List.{List}
 use native.Mathlib.Omega.{arith}
 use lib.Dec.{ltb, eqb}
 use lib.ListN.{length, getD, take, drop, length-append}
-use borrow.Author.Tests.{le-ltb, ltb-false, eqb-true}
+use borrow.Author.Tests.{ltb-false, eqb-true}
 use Rattle.refusal.specs.Paper.{Said, gives, refuses, refuseIf}
 use Rattle.refusal.proofs.Said.{gives-same, gives-not}
 use Rattle.square.specs.Square.{squareOf, readName}
 use Rattle.board.specs.Board.{attack, onBlock}
+use Rattle.board.proofs.Blocks.{on-block}
 use Rattle.hex.specs.declared.Value.{Value}
 use Rattle.hex.specs.declared.Value.the-variants.{Is, Not}
 use Rattle.hex.specs.Hex.{onValue, readWord}
@@ -80,9 +81,7 @@ query-low line =
 pub block-given : (line : List ℕ) (kind square blockers : ℕ) → queryOf line ≡ Walk kind square blockers → onBlock kind square (gives (attack kind square blockers)) ≡ gives (attack kind square blockers)
 block-given line kind square blockers e =
     let low : Low (Walk kind square blockers) = subst Low e (query-low line) in
-    let k : kind ≤ 1 = omega arith in
-    let s : square ≤ 63 = omega arith in
-    simp (le-ltb _ _ k, le-ltb _ _ s)
+    on-block kind square _ (low .0) (low .1)
 
 pub walk-long : (line : List ℕ) (walk : ℕ) → walkOf (queryOf line) ≡ Is walk → length line ≡ 21
 unfolding queryOf walkOf

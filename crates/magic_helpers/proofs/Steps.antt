@@ -1,14 +1,14 @@
 -- Two steps in turn, and a step by its direction's number.
 -- Assumes nothing.
-use Prim.Native.Nat.{ℕ, zero, suc, _+_, _-_, _*_, _/_, _%_, _≤_, _<_}
-use mathlib.Core.Path.{_≡_, refl, sym, ap, _∙_}
+use Prim.Native.Nat.{ℕ, zero, suc, _+_, _-_, _*_, _/_, _%_, _≤_}
+use mathlib.Core.Path.{_≡_, refl, sym, ap}
 use mathlib.Core.Bool.{Bool, true, false}
 use mathlib.Core.Option.{Option, none, some}
 use native.Mathlib.Omega.{arith}
 use borrow.Author.Tests.{le-ltb, eqb-false, ltb-false}
 use lib.Dec.{ltb, eqb}
-use Rattle.refusal.specs.Paper.{Said, gives, refuses, refuseIf}
-use Rattle.square.specs.Square.{rankOf, fileOf, onSquare, unless, leftOf, rightOf, upOf, downOf}
+use Rattle.refusal.specs.Paper.{gives, refuseIf}
+use Rattle.square.specs.Square.{rankOf, fileOf, onSquare, unless, leftOf, rightOf}
 use Rattle.board.specs.Walk.{thenStep, step}
 use Rattle.magic_helpers.specs.Chain.{chain}
 

@@ -1,16 +1,15 @@
 -- Builds from one seed with other budgets and other room: demand 3.
 -- Assumes nothing.
 use Prim.Native.Nat.{ℕ, _≤_, _<_}
-use mathlib.Core.Path.{_≡_, refl, sym, ap, _∙_}
+use mathlib.Core.Path.{_≡_, refl, sym, _∙_}
 use native.Mathlib.Nat.{not-suc-le-zero}
 use native.Mathlib.Omega.{arith}
-use Rattle.bits.specs.Shown.{sum}
 use Rattle.packing.specs.Pack.{Blocks, bySearch, State, start, done, refused, run, seedBuild}
 use Rattle.packing.specs.Promised.{Room, mostAttempts}
 use Rattle.packing.proofs.Largest.{largest-le, largest-least}
 use Rattle.packing.proofs.Next.{place-le}
 use Rattle.packing.proofs.Run.{Ran, run-full, run-spent, stopped-full, stopped-spent, refusal-stays}
-use Rattle.packing.proofs.Success.{chose, end-fits, end-total, succeeds-again, same-state}
+use Rattle.packing.proofs.Success.{chose, end-fits, succeeds-again, same-state}
 use Rattle.packing.proofs.Choices.{search-none, search-within, search-more, search-agrees}
 
 module _ (B : Blocks) (candidate : ℕ → ℕ) where

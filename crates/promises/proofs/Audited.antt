@@ -7,7 +7,7 @@ use mathlib.Core.List.{List}
 use native.Mathlib.Omega.{arith}
 use native.Mathlib.Decide.{decLt}
 use lib.Dec.{eqb, ltb}
-use lib.ListN.{length, getD, replicate, List·getD-eq-default}
+use lib.ListN.{length, replicate, List·getD-eq-default}
 use Rattle.refusal.specs.Paper.{gives}
 use Rattle.bits.specs.Shown.{shown}
 use Rattle.bits.proofs.Shown.{getD-same, getD-shown, length-shown}

@@ -1,15 +1,18 @@
 -- Demand 1.
 -- Assumes nothing.
 use Prim.Native.Nat.{ℕ, _≤_, _<_}
-use mathlib.Core.Path.{_≡_, refl, ap, ap₂, _∙_}
-use mathlib.Core.Bool.{Bool, not}
+use mathlib.Core.Path.{_≡_, refl, sym, ap, ap₂, _∙_}
+use mathlib.Core.Bool.{Bool, true, not, _||_}
 use mathlib.Core.List.{List, _∷_, []}
 use mathlib.Core.Logic.{_⊎_, inl, inr}
+use native.Mathlib.Omega.{arith}
 use borrow.Author.Tests.{lt-ltb, le-ltb, eq-eqb, ne-eqb}
 use lib.Dec.{ltb}
 use lib.ListN.{length, replicate}
 use Rattle.refusal.specs.Paper.{Said, gives, refuses, refuseIf}
+use Rattle.square.specs.Square.{squareOf}
 use Rattle.board.specs.Board.{onBlock}
+use Rattle.board.proofs.Blocks.{on-block}
 use Rattle.bmis.specs.Bmis as Bmis
 use Rattle.splitmix.specs.SplitMix.{candidate}
 use Rattle.packing.specs.declared.Choice.{Choice}
@@ -17,16 +20,31 @@ use Rattle.packing.specs.Pack.{Outcome, done, refused, run, bySearch, byLent, s
 use Rattle.packing.proofs.Run.{stopped}
 use Rattle.packing.proofs.Refusals.{room-or-spent, room-or-collides}
 use Rattle.blocks.specs.Real.{real}
+use Rattle.gen_magic.specs.declared.Record.{Record}
 use Rattle.gen_magic.specs.Builds.{slots, Left, empty, ended, fromSeed, fromLent}
 use Rattle.gen_magic.proofs.Answers.{kept, passed}
 use Rattle.gen_magic.proofs.Came.{seed-is, lent-is}
+use Rattle.magic.specs.LookUp.{lookUp}
+use Rattle.magic.proofs.LookUps.{outside, look-8, look-7}
+use Rattle.magic.proofs.Audits.{inside}
 use Rattle.promises.specs.Demands.{Succeeds, Demand1}
 
-kind-refused : (kind sq : ℕ) (x : Said ℕ) → 1 < kind → onBlock kind sq x ≡ refuses 1 []
+kind-refused : {A : Type 0} (kind sq : ℕ) (x : Said A) → 1 < kind → onBlock kind sq x ≡ refuses 1 []
 kind-refused kind sq x h = ap (λ (c : Bool). refuseIf c 1 (refuseIf (ltb 63 sq) 2 x)) (lt-ltb 1 kind h)
 
-square-refused : (kind sq : ℕ) (x : Said ℕ) → kind ≤ 1 → 63 < sq → onBlock kind sq x ≡ refuses 2 []
+square-refused : {A : Type 0} (kind sq : ℕ) (x : Said A) → kind ≤ 1 → 63 < sq → onBlock kind sq x ≡ refuses 2 []
 square-refused kind sq x h g = ap₂ (λ (c d : Bool). refuseIf c 1 (refuseIf d 2 x)) (le-ltb 1 kind h) (lt-ltb 63 sq g)
+
+-- the first test decides
+refused-if : {A : Type 0} {c : Bool} (n : ℕ) (x : Said A) → c ≡ true → refuseIf c n x ≡ refuses n []
+refused-if n x e = ap (λ (c : Bool). refuseIf c n x) e
+
+shift-refused : (kind sq blockers : ℕ) (r : Record) (table : List ℕ) → (r .shift < 52) ⊎ (59 < r .shift) → lookUp kind sq blockers r table ≡ refuses 8 []
+shift-refused kind sq blockers r table h = sym (look-8 kind sq blockers r table (outside-is (r .shift) h))
+  where
+    outside-is : (n : ℕ) → (n < 52) ⊎ (59 < n) → outside n ≡ true
+    outside-is n (inl l) = ap (λ (c : Bool). c || ltb 59 n) (lt-ltb n 52 l)
+    outside-is n (inr l) = ap₂ _||_ (le-ltb n 52 (omega arith)) (lt-ltb 59 n l)
 
 pext-refused : (old : List ℕ) → (length old ≡ 107648 → ⊥) → (Bmis.ofLength {A = ℕ} (length old) (gives 107648) ≡ refuses 9 []) × (Bmis.filled old ≡ old)
 pext-refused old f = let e = ne-eqb (length old) 107648 f in
@@ -63,7 +81,15 @@ demand-1 =
     record {
       kind-refused = kind-refused;
       square-refused = square-refused;
+      off-the-board = λ sq x h. refused-if 2 x (lt-ltb 63 sq h);
+      rank-refused = λ rank file h. refused-if 2 _ (lt-ltb 7 rank h);
+      file-refused = λ rank file h g. ap₂ (λ (c d : Bool). refuseIf c 2 (refuseIf d 2 (gives (squareOf rank file)))) (le-ltb 7 rank h) (lt-ltb 7 file g);
+      name-refused = λ bytes h. refused-if 2 _ (lt-ltb (length bytes) 2 h);
+      empty-refused = refl;
       pext-refused = pext-refused;
+      pext-look-up-refused = λ kind sq entries x h g f. on-block kind sq _ h g ∙ refused-if 9 x (ap not (ne-eqb entries 107648 f));
+      shift-refused = shift-refused;
+      index-refused = λ kind sq blockers r table h g l. sym (look-7 kind sq blockers r table (inside (r .shift) (h, g)) l);
       budget-refused = budget-refused;
       lengths-refused = lengths-refused;
       list-refused = list-refused;

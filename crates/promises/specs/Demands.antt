@@ -3,8 +3,10 @@ use Prim.Native.Nat.{ℕ, suc, _^_, _≤_, _<_}
 use mathlib.Core.Path.{_≡_}
 use mathlib.Core.List.{List, [], _∷_}
 use mathlib.Core.Logic.{_⊎_, _↔_}
-use lib.ListN.{length, getD, take, replicate}
+use lib.ListN.{length, take, replicate}
 use Rattle.refusal.specs.Paper.{Said, gives, refuses}
+use Rattle.square.specs.Square.{onSquare, makeSquare, readName}
+use Rattle.bitboard.specs.Bitboard.{leastSquare}
 use Rattle.board.specs.Board.{attack, onBlock}
 use Rattle.board.specs.Blocks.{blockOf}
 use Rattle.board.specs.Walk.{walk}
@@ -12,10 +14,11 @@ use Rattle.board.specs.Crate.{answer}
 use Rattle.bmis.specs.Bmis as Bmis
 use Rattle.splitmix.specs.SplitMix.{candidate}
 use Rattle.packing.specs.Pack.{State, place, done}
-use Rattle.packing.specs.Promised.{Placed, after, takenBy, EachFirst, EachClean, largest}
+use Rattle.packing.specs.Promised.{Placed, after, takenBy, EachFirst, lentAt, EachClean, largest}
 use Rattle.blocks.specs.Real.{real}
+use Rattle.gen_magic.specs.declared.Record.{Record}
 use Rattle.gen_magic.specs.Builds.{slots, recordAt, Left, empty, ended, fromSeed, fromLent, recordIn}
-use Rattle.magic.specs.LookUp.{lookUp}
+use Rattle.magic.specs.LookUp.{slotIn, lookUp}
 
 -- a build succeeded
 abbrev pub Succeeds : Left → Type 0
@@ -31,10 +34,23 @@ pub record Allowed (budget : ℕ) (table marks : List ℕ) : Type 0 where
 -- "Bad arguments are refused by number and change nothing. A build refused on the way leaves table, marks and records all
 -- zero." That any numbers and lengths are taken and every call ends is in what a proof of a function is: none has a
 -- demand on its caller
-pub record Demand1 : Type 0 where
-  pub kind-refused : (kind sq : ℕ) (x : Said ℕ) → 1 < kind → onBlock kind sq x ≡ refuses 1 []
-  pub square-refused : (kind sq : ℕ) (x : Said ℕ) → kind ≤ 1 → 63 < sq → onBlock kind sq x ≡ refuses 2 []
+pub record Demand1 : Type 1 where
+  -- 1 and 2, of all that is asked by kind and square
+  pub kind-refused : {A : Type 0} (kind sq : ℕ) (x : Said A) → 1 < kind → onBlock kind sq x ≡ refuses 1 []
+  pub square-refused : {A : Type 0} (kind sq : ℕ) (x : Said A) → kind ≤ 1 → 63 < sq → onBlock kind sq x ≡ refuses 2 []
+  -- 2, of a square alone, a rank, a file, a name, a least square
+  pub off-the-board : {A : Type 0} (sq : ℕ) (x : Said A) → 63 < sq → onSquare sq x ≡ refuses 2 []
+  pub rank-refused : (rank file : ℕ) → 7 < rank → makeSquare rank file ≡ refuses 2 []
+  pub file-refused : (rank file : ℕ) → rank ≤ 7 → 7 < file → makeSquare rank file ≡ refuses 2 []
+  pub name-refused : (bytes : List ℕ) → length bytes < 2 → readName bytes ≡ refuses 2 []
+  pub empty-refused : leastSquare 0 ≡ refuses 2 []
+  -- 9, of a fill, which leaves the loan, and of a look-up
   pub pext-refused : (old : List ℕ) → (length old ≡ 107648 → ⊥) → (Bmis.ofLength {A = ℕ} (length old) (gives 107648) ≡ refuses 9 []) × (Bmis.filled old ≡ old)
+  pub pext-look-up-refused : {A : Type 0} (kind sq entries : ℕ) (x : Said A) → kind < 2 → sq < 64 → (entries ≡ 107648 → ⊥) → Bmis.inTable kind sq entries x ≡ refuses 9 []
+  -- 8, then 7, of a magic look-up
+  pub shift-refused : (kind sq blockers : ℕ) (r : Record) (table : List ℕ) → (r .shift < 52) ⊎ (59 < r .shift) → lookUp kind sq blockers r table ≡ refuses 8 []
+  pub index-refused : (kind sq blockers : ℕ) (r : Record) (table : List ℕ) → 52 ≤ r .shift → r .shift ≤ 59 → length table ≤ slotIn r blockers → lookUp kind sq blockers r table ≡ refuses 7 []
+  -- 10, 9 and 3, of the builds
   pub budget-refused : (seed budget : ℕ) (table marks : List ℕ) → 16777216 < budget → fromSeed seed budget table marks ≡ empty 10 [] table marks
   pub lengths-refused : (seed budget : ℕ) (table marks : List ℕ) → budget ≤ 16777216 → (length table ≡ length marks → ⊥) → fromSeed seed budget table marks ≡ empty 3 [] table marks
   pub list-refused : (multipliers table marks : List ℕ) → (length multipliers ≡ 128 → ⊥) → fromLent multipliers table marks ≡ empty 9 [] table marks
@@ -52,19 +68,22 @@ pub record Demand1 : Type 0 where
 
 -- the look-up with a block's own record, in what a build left
 abbrev pub LooksUp : Left → ℕ → ℕ → ℕ → Type 0
-LooksUp left kind sq blockers = lookUp kind sq blockers (recordIn (left .records) (blockOf kind sq)) (left .table) ≡ gives (attack kind sq blockers)
+LooksUp left kind sq blockers = onBlock kind sq (lookUp kind sq blockers (recordIn (left .records) (blockOf kind sq)) (left .table)) ≡ gives (attack kind sq blockers)
 
 -- "For each square, rook or bishop, and any 64 blocker bits, ray walk, look-up in a filled PEXT table and look-up in a
 -- built magic table give the attack set of FIDE Laws 3.2, 3.3 and 3.5, first blocker included, and equal the crate's."
+-- Each left side is what the public function is proved to say, refusals included
 pub record OneAnswer (kind sq blockers : ℕ) : Type 0 where
-  pub by-walk : walk kind sq blockers ≡ attack kind sq blockers
-  pub by-pext : (old : List ℕ) → length old ≡ 107648 → Bmis.lookUp kind sq blockers (Bmis.filled old) ≡ attack kind sq blockers
+  pub by-walk : onBlock kind sq (gives (walk kind sq blockers)) ≡ gives (attack kind sq blockers)
+  pub by-pext : (old : List ℕ) → length old ≡ 107648 → Bmis.inTable kind sq (length (Bmis.filled old)) (gives (Bmis.lookUp kind sq blockers (Bmis.filled old))) ≡ gives (attack kind sq blockers)
   pub by-seed : (seed budget : ℕ) (table marks : List ℕ) → Succeeds (fromSeed seed budget table marks) → LooksUp (fromSeed seed budget table marks) kind sq blockers
   pub by-lent : (multipliers table marks : List ℕ) → Succeeds (fromLent multipliers table marks) → LooksUp (fromLent multipliers table marks) kind sq blockers
   pub by-crate : answer kind sq blockers ≡ attack kind sq blockers
 
 pub record Demand2 : Type 0 where
   pub one-answer : (kind sq blockers : ℕ) → kind < 2 → sq < 64 → blockers < 2 ^ 64 → OneAnswer kind sq blockers
+  -- "a filled PEXT table": a loan of 107,648 entries is filled
+  pub fills : (old : List ℕ) → length old ≡ 107648 → Bmis.ofLength {A = ℕ} (length old) (gives 107648) ≡ gives 107648
   -- "A build from a seed, its arguments not refused, succeeds exactly when each block, in the fixed order, fits at its first
   -- free place and has a passing candidate within the budget"
   pub succeeds-exactly : (seed budget : ℕ) (table marks : List ℕ) → Allowed budget table marks
@@ -81,6 +100,12 @@ pub record Demand2 : Type 0 where
   -- 01, "Packing": "The build from lent multipliers does the same with 128 given numbers, .. testing collisions only"
   pub lent-exactly : (multipliers table marks : List ℕ) → length multipliers ≡ 128 → length table ≡ length marks
       → Succeeds (fromLent multipliers table marks) ↔ EachClean real (slots multipliers) (length table) 128
+  -- "Its attempt counts are 0": each record has the lent number and its first free place
+  pub lent-takes : (multipliers table marks : List ℕ) → length multipliers ≡ 128 → length table ≡ length marks → EachClean real (slots multipliers) (length table) 128
+      → fromLent multipliers table marks ≡ ended (length table) (done (after real (lentAt (slots multipliers)) 128))
+  pub lent-block-by-block : (multipliers table marks : List ℕ) → length multipliers ≡ 128 → length table ≡ length marks → EachClean real (slots multipliers) (length table) 128 → (b : ℕ) → b < 128
+      → (recordIn (fromLent multipliers table marks .records) b ≡ recordAt b (slots multipliers b) (place real b (after real (lentAt (slots multipliers)) b)))
+      × (slots (fromLent multipliers table marks .counts) b ≡ 0)
 
 -- ---- demand 3
 

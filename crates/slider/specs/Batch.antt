@@ -2,7 +2,7 @@
 use Prim.Native.Nat.{ℕ, min}
 use mathlib.Core.Path.{_≡_}
 use mathlib.Core.List.{List, _++_}
-use lib.ListN.{length, getD, drop}
+use lib.ListN.{length, drop}
 use Rattle.refusal.specs.Paper.{Said, gives}
 use Rattle.bits.specs.Shown.{shown}
 use Rattle.board.specs.Board.{attack, onBlock}

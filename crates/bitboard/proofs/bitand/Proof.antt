@@ -1,5 +1,4 @@
 -- `bitboard::bitand` meets its contract, square by square.
-use borrow.Author.Needs.{needs}
 use lib.Bits.{bitAnd, and-lt}
 use Rattle.bits.proofs.Sets.{has-and, is-setOf}
 use Rattle.bitboard.specs.Bitboard.{inBoth}

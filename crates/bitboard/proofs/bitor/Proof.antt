@@ -1,5 +1,4 @@
 -- `bitboard::bitor` meets its contract, square by square.
-use borrow.Author.Needs.{needs}
 use lib.Bits.{bitOr, or-lt}
 use Rattle.bits.proofs.Sets.{has-or, is-setOf}
 use Rattle.bitboard.specs.Bitboard.{inEither}

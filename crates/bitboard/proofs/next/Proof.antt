@@ -1,9 +1,8 @@
 -- `bitboard::next` meets its contract: the least square is where the trailing zeros end, and XOR takes it out.
-use mathlib.Core.Path.{_≡_, refl, sym, ap, ap₂, _∙_}
-use Prim.Native.Nat.{ℕ, zero, _^_, _<_}
+use mathlib.Core.Path.{_≡_, sym, ap, ap₂, _∙_}
+use Prim.Native.Nat.{zero, _<_}
 use native.Mathlib.Omega.{arith}
 use borrow.Author.Tests.{eq-eqb, ne-eqb}
-use lib.Bits.{bitXor}
 use lib.Count.{trailingZeros}
 use Rattle.bits.specs.Set.{has, least}
 use Rattle.bits.proofs.Least.{least-trailing, trailing-lt, trailing-has}

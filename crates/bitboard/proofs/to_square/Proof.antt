@@ -1,6 +1,6 @@
 -- `bitboard::to_square` meets its contract: the least square is where the trailing zeros end.
 use mathlib.Core.Path.{sym, ap}
-use Prim.Native.Nat.{ℕ, zero, _<_}
+use Prim.Native.Nat.{zero, _<_}
 use native.Mathlib.Omega.{arith}
 use borrow.Author.Tests.{eq-eqb, ne-eqb}
 use Rattle.bits.proofs.Least.{least-trailing, trailing-lt}

@@ -1,6 +1,5 @@
 -- `bits::wrapping_mul` meets its contract: each product of halves fits, and the sum is the product's low half.
 use mathlib.Core.Path.{_∙_}
-use Prim.Native.Nat.{_<_}
 use lib.Bits.{mask-lt}
 use lib.Pow.{shr-lt}
 use borrow.Author.Needs.{needs}

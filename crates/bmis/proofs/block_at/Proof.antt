@@ -1,9 +1,6 @@
 -- `bmis::block_at` meets its contract.
-use Prim.Native.Nat.{ℕ, _+_, _-_, _*_, _/_, _%_, _<_}
-use mathlib.Core.Path.{_≡_}
-use native.Mathlib.Omega.{arith}
+use Prim.Native.Nat.{_-_}
 use borrow.Author.Needs.{needs}
-use Rattle.bmis.specs.Bmis.{blockAt}
 use Rattle.bmis.proofs.Sums.{block-is}
 use Rattle.bmis.proofs.block_at.Statement.{statement}
 use Rattle.bmis.proofs.block_at.Tie as tie

@@ -1,11 +1,10 @@
 -- `bmis::bmi_part` meets its contract: by the block, or the empty part.
 use Prim.Native.Nat.{ℕ, _+_, _-_, _≤_}
 use mathlib.Core.Path.{_≡_, sym, ap, ap₂, _∙_}
-use mathlib.Core.List.{List}
 use native.Mathlib.Omega.{arith}
 use borrow.Author.Needs.{needs}
 use lib.ListN.{length, take, drop}
-use Rattle.refusal.specs.Paper.{Said, gives, said}
+use Rattle.refusal.specs.Paper.{gives, said}
 use Rattle.board.specs.Blocks.{blockOf}
 use Rattle.bmis.specs.Bmis.{inTable, given, partOf}
 use Rattle.bmis.proofs.InTable.{by-table, refused-table, right-length, part-ends}

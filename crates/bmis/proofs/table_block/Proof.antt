@@ -1,13 +1,10 @@
 -- `bmis::table_block` meets its contract, by the block and then the length.
-use Prim.Native.Nat.{ℕ}
-use mathlib.Core.Bool.{Bool, not}
-use mathlib.Core.Path.{_≡_, sym, ap, _∙_}
+use mathlib.Core.Path.{sym, ap, _∙_}
 use borrow.Author.Needs.{needs}
 use borrow.Author.Tests.{eq-eqb, ne-eqb}
-use Rattle.refusal.specs.Paper.{Said, gives, refuses, refuseIf, said, andThen}
-use Rattle.board.specs.Board.{onBlock}
+use Rattle.refusal.specs.Paper.{gives, said}
 use Rattle.board.specs.Blocks.{blockOf}
-use Rattle.board.proofs.Blocks.{block-then, refused-block}
+use Rattle.board.proofs.Blocks.{refused-block}
 use Rattle.bmis.specs.Bmis.{ofLength}
 use Rattle.bmis.proofs.InTable.{then-length}
 use Rattle.bmis.proofs.table_block.Statement.{statement}

@@ -2,7 +2,6 @@
 use Prim.Native.Nat.{ℕ, _+_, _≤_}
 use mathlib.Core.Path.{sym, ap, _∙_, subst}
 use native.Mathlib.Omega.{arith}
-use lib.ListN.{getD}
 use Rattle.refusal.specs.Paper.{Said, gives, andThen}
 use Rattle.board.specs.Blocks.{kindOf, squareOf}
 use Rattle.board.proofs.Blocks.{kind-lt, square-lt}

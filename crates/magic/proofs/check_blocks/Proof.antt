@@ -3,7 +3,6 @@ use borrow.Author.Needs.{needs}
 use Prim.Native.Nat.{ℕ, _-_, _≤_, zero-le}
 use mathlib.Core.Path.{_≡_, sym, ap, _∙_}
 use native.Mathlib.Omega.{arith}
-use lib.ListN.{getD}
 use Rattle.refusal.specs.Paper.{gives}
 use Rattle.gen_magic.specs.Builds.{recordIn}
 use Rattle.magic.specs.Audit.{inTurn, blockSays, blocksSay, checked}

@@ -1,7 +1,5 @@
 -- `magic_helpers::edges` meets its contract, by the kind.
-use Prim.Native.Nat.{_/_, _%_}
 use borrow.Author.Needs.{needs}
-use native.Mathlib.Omega.{arith}
 use Rattle.magic_helpers.proofs.Masks.{edges-bishop, edges-rook}
 use Rattle.magic_helpers.proofs.edges.Statement.{statement}
 use Rattle.magic_helpers.proofs.edges.Tie as tie

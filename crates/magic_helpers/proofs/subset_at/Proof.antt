@@ -1,5 +1,4 @@
 -- `magic_helpers::subset_at` meets its contract: a subset is a deposit in the mask.
-use Prim.Native.Nat.{ℕ}
 use mathlib.Core.Path.{sym, ap, _∙_}
 use borrow.Author.Needs.{needs}
 use Rattle.bits.specs.Intel.{pdep}

@@ -1,6 +1,5 @@
 -- `magic_helpers::walk_at` meets its contract: four directions joined, which is the attack set.
 use mathlib.Core.Path.{ap₂, _∙_}
-use native.Mathlib.Omega.{arith}
 use borrow.Author.Needs.{needs}
 use lib.Bits.{bitOr}
 use Rattle.board.specs.Walk.{walk}

@@ -1,4 +1,4 @@
-pub mod Differ
+pub mod Tests
 pub mod Ground
 pub mod Board
 pub mod Border

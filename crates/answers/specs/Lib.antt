@@ -1,4 +1,4 @@
-pub mod Wrong
+pub mod Tried
 pub mod Ground
 pub mod Board
 pub mod Border

@@ -1,4 +1,4 @@
--- None of these wrong answers is what a statement gives: computed from the definitions.
+-- Each statement gives the right answer and not the wrong one: computed from the definitions.
 -- Assumes nothing.
 use Rattle.bits.specs.Intel.{pext, pdep}
 use Rattle.bits.specs.Set.{least}
@@ -12,10 +12,11 @@ use Rattle.splitmix.specs.SplitMix.{advanced, mixed, after, output, candidateOf
 use Rattle.candidates.specs.OneBlock.{searchOf}
 use Rattle.magic.specs.LookUp.{slotIn, lookUp}
 use Rattle.magic.specs.Audit.{inTurn, exact, blockSays, blocksSay, auditSays}
-use Rattle.refuted.specs.Wrong.{Refuted}
-use Rattle.refuted.specs.Board.{wrongs}
-use Rattle.refuted.proofs.Differ.{alike, differ, refuted}
+use Rattle.answers.specs.Tried.{Each}
+use Rattle.answers.specs.Board.{table}
+use Rattle.bits.proofs.SameList.{sameList}
+use Rattle.answers.proofs.Tests.{tested, each}
 
-pub none-holds : Refuted wrongs
-unfolding alike differ pext pdep least sum rays mask attack blockOf kindOf squareOf bitsOf sizeOf shiftOf subset sizeAt offsetOf partOf Bmis.lookUp firstPassing takenAt bySearch advanced mixed after output candidateOf stateAt candidate searchOf slotIn lookUp inTurn exact blockSays blocksSay auditSays
-none-holds = refuted wrongs tt
+pub holds : Each table
+unfolding sameList tested pext pdep least sum rays mask attack blockOf kindOf squareOf bitsOf sizeOf shiftOf subset sizeAt offsetOf partOf Bmis.lookUp firstPassing takenAt bySearch advanced mixed after output candidateOf stateAt candidate searchOf slotIn lookUp inTurn exact blockSays blocksSay auditSays
+holds = each table tt
