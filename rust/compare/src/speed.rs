@@ -13,49 +13,67 @@ use std::time::{Duration, Instant};
 
 const CHUNK: usize = 65_536;
 
-/// Queries of one kind, as the original has a function for each.
+/// The kinds of a chunk's queries.
+#[derive(Clone, Copy, PartialEq)]
+enum Kinds {
+    Rooks,
+    Bishops,
+    Mixed,
+}
+
 struct Chunk {
-    rooks: bool,
+    kinds: Kinds,
     queries: Queries,
     squares: Vec<Square>,
 }
 
 impl Chunk {
-    fn new(random: &mut Random, rooks: bool, count: usize) -> Chunk {
-        let mut c = Chunk { rooks, queries: Queries::default(), squares: vec![] };
+    fn new(random: &mut Random, kinds: Kinds, count: usize) -> Chunk {
+        let mut c = Chunk { kinds, queries: Queries::default(), squares: vec![] };
         for _ in 0..count {
-            let (_, sq, blockers) = random.query(3);
-            c.queries.push(!rooks as u8, sq, blockers);
+            let (kind, sq, blockers) = random.query(3);
+            let kind = if kinds == Kinds::Mixed { kind } else { (kinds == Kinds::Bishops) as u8 };
+            c.queries.push(kind, sq, blockers);
             c.squares.push(theirs::square(sq));
         }
         c
     }
 }
 
+/// The original has a function for each kind: a chunk of one kind needs no test of it.
 macro_rules! each {
-    ($chunk:expr, $moves:expr, $one:expr) => {
-        for i in 0..$moves.len() {
-            $moves[i] = $one($chunk.squares[i], BitBoard($chunk.queries.blockers[i])).0;
+    ($chunk:expr, $moves:expr, $rook:expr, $bishop:expr) => {
+        let n = $moves.len();
+        let (kinds, squares, blockers) = (&$chunk.queries.kinds[..n], &$chunk.squares[..n], &$chunk.queries.blockers[..n]);
+        match $chunk.kinds {
+            Kinds::Rooks => {
+                for i in 0..n {
+                    $moves[i] = $rook(squares[i], BitBoard(blockers[i])).0;
+                }
+            }
+            Kinds::Bishops => {
+                for i in 0..n {
+                    $moves[i] = $bishop(squares[i], BitBoard(blockers[i])).0;
+                }
+            }
+            Kinds::Mixed => {
+                for i in 0..n {
+                    let (sq, blockers) = (squares[i], BitBoard(blockers[i]));
+                    $moves[i] = if kinds[i] == 0 { $rook(sq, blockers) } else { $bishop(sq, blockers) }.0;
+                }
+            }
         }
     };
 }
 
 fn original_magic(c: &Chunk, moves: &mut [u64]) {
-    if c.rooks {
-        each!(c, moves, get_rook_moves)
-    } else {
-        each!(c, moves, get_bishop_moves)
-    }
+    each!(c, moves, get_rook_moves, get_bishop_moves);
 }
 
 /// With BMI2, which the original's functions were compiled for: so they are inlined here.
 #[target_feature(enable = "bmi2")]
 unsafe fn original_pext(c: &Chunk, moves: &mut [u64]) {
-    if c.rooks {
-        each!(c, moves, get_rook_moves_bmi)
-    } else {
-        each!(c, moves, get_bishop_moves_bmi)
-    }
+    each!(c, moves, get_rook_moves_bmi, get_bishop_moves_bmi);
 }
 
 fn one_by_one(q: &Queries, moves: &mut [u64], ask: impl Fn(u8, u8, u64) -> ours::Answer) {
@@ -88,12 +106,25 @@ fn look_ups(o: &Original, count: usize, rounds: usize) {
         }),
         ("ours by the walk, batch", 0, &|c, moves, numbers| batch(By::Walk, c, moves, numbers)),
     ];
+    for (title, turns) in [("kinds mixed", [Kinds::Mixed; 2]), ("chunks of one kind", [Kinds::Rooks, Kinds::Bishops])] {
+        let best = timed(&rows, turns, count, rounds);
+        println!("{:60} {:>12} {:>19}", format!("look-ups, {title}"), "ns a query", "to the original's");
+        for ((name, to, _), time) in rows.iter().zip(best) {
+            let (ns, ratio) = (time.as_secs_f64() * 1e9 / count as f64, time.as_secs_f64() / best[*to].as_secs_f64());
+            println!("{name:60} {ns:12.2} {ratio:19.2}");
+        }
+        println!();
+    }
+}
+
+/// The best round of each row; chunks have kinds by turns.
+fn timed(rows: &[Row; 7], turns: [Kinds; 2], count: usize, rounds: usize) -> [Duration; 7] {
     let mut best = [Duration::MAX; 7];
     for _ in 0..rounds {
-        let (mut random, mut rooks, mut left) = (Random::new(1), true, count);
+        let (mut random, mut left) = (Random::new(1), count);
         let mut total = [Duration::ZERO; 7];
-        while left > 0 {
-            let chunk = Chunk::new(&mut random, rooks, left.min(CHUNK));
+        for kinds in turns.into_iter().cycle().take((count + CHUNK - 1) / CHUNK) {
+            let chunk = Chunk::new(&mut random, kinds, left.min(CHUNK));
             let n = chunk.queries.len();
             let (mut wanted, mut moves, mut numbers) = (vec![0; n], vec![0; n], vec![0; n]);
             for (k, (name, _, run)) in rows.iter().enumerate() {
@@ -106,21 +137,17 @@ fn look_ups(o: &Original, count: usize, rounds: usize) {
                 }
                 same(moves == wanted, name);
             }
-            (rooks, left) = (!rooks, left - n);
+            left -= n;
         }
         best = std::array::from_fn(|k| best[k].min(total[k]));
     }
-    println!("{:60} {:>12} {:>19}", "look-ups", "ns a query", "to the original's");
-    for (k, (name, to, _)) in rows.iter().enumerate() {
-        let (ns, ratio) = (best[k].as_secs_f64() * 1e9 / count as f64, best[k].as_secs_f64() / best[*to].as_secs_f64());
-        println!("{name:60} {ns:12.2} {ratio:19.2}");
-    }
+    best
 }
 
 /// The original's gen_all_magic with SplitMix64 from our seed in SmallRng's place, and our build from that seed: the same candidates, the
 /// same tables. Each is a run of its own, for the original's statics can be filled once.
 fn builds(rounds: usize) {
-    println!("\n{:60} {:>12} {:>19}", "whole builds", "s", "to the original's");
+    println!("{:60} {:>12} {:>19}", "whole builds", "s", "to the original's");
     for (seed, image) in images::splitmix() {
         let mut best = [f64::MAX; 2];
         for _ in 0..rounds {
@@ -158,7 +185,7 @@ pub fn run(count: usize, rounds: usize) {
     if emulated() {
         println!("EMULATED: this runs under QEMU, off x86-64. Ratios say little of a processor, times nothing.\n");
     }
-    println!("{count} queries in chunks of {CHUNK} of one kind, a quarter of the squares blocked; best of {rounds} rounds, taking turns\n");
+    println!("{count} queries in chunks of {CHUNK}, a quarter of the squares blocked; best of {rounds} rounds, taking turns\n");
     look_ups(&Original::new(), count, rounds);
     builds(rounds);
 }
