@@ -9,7 +9,7 @@
 //! about (200), COMPARE_SEED=S the seed of both. COMPARE_FLIP=PART,ROW,INDEX,BIT flips one bit of our answer in one comparison.
 extern crate original;
 
-#[allow(dead_code)] // a copy, whole: not everything is asked for here
+#[allow(dead_code)] // the rulebook whole: not everything of it is asked for here
 #[rustfmt::skip]
 mod anew;
 mod audit;
