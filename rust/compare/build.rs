@@ -13,8 +13,8 @@ use std::path::{Path, PathBuf};
 use std::process::{exit, Command};
 
 const PLAIN: [&str; 7] = ["bitboard", "color", "error", "file", "piece", "rank", "square"];
-/// Seeds of the original with SplitMix64. The last two leave slots that no question hits.
-const SPLITMIX: [u64; 3] = [42, 0xAEA0_B056_15E9_7B6C, 0x6FD4_CE64_C83F_5143];
+/// Seeds of the original with SplitMix64. With 3070 the last slot of a range decides a place; the last two leave slots that no question hits.
+const SPLITMIX: [u64; 4] = [42, 3_070, 0xAEA0_B056_15E9_7B6C, 0x6FD4_CE64_C83F_5143];
 const GENERATORS: [&str; 4] = ["bmis", "magic", "magic_helpers", "rays"];
 
 fn stop(message: String) -> ! {
@@ -140,11 +140,12 @@ fn main() {
             b.run(&program, &b.out.join(format!("tables_{name}.rs")), "");
             continue;
         }
-        for (k, seed) in SPLITMIX.iter().enumerate() {
-            b.run(&program, &b.out.join(format!("tables_splitmix_{k}.rs")), &seed.to_string());
+        for seed in SPLITMIX {
+            b.run(&program, &b.out.join(format!("tables_splitmix_{seed}.rs")), &seed.to_string());
         }
     }
-    fs::write(b.out.join("seeds.rs"), format!("{SPLITMIX:?}")).unwrap();
+    let text = |seed| format!("({seed}, include_str!(\"tables_splitmix_{seed}.rs\"))");
+    fs::write(b.out.join("splitmix.rs"), format!("[{}]", SPLITMIX.map(text).join(", "))).unwrap();
 
     // ---- the crate `original`
     let tables = fs::read_to_string(b.out.join("tables_rand085.rs")).unwrap();

@@ -1,4 +1,4 @@
-//! Runs the original's generators and writes their own text: generate OUT_FILE.
+//! Runs the original's generators and writes their own text: generate OUT_FILE. Prints the seconds of gen_all_magic.
 #![allow(warnings)]
 include!(concat!(env!("OUT_DIR"), "/generators.rs"));
 
@@ -14,7 +14,9 @@ fn main() {
     rays::gen_rook_rays();
     rays::gen_bishop_rays();
     rays::write_rays(&mut f);
+    let begun = std::time::Instant::now();
     magic::gen_all_magic();
+    println!("{:.6}", begun.elapsed().as_secs_f64());
     magic::write_magic(&mut f);
     bmis::gen_all_bmis();
     bmis::write_bmis(&mut f);

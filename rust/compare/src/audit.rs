@@ -106,8 +106,10 @@ fn offset(d: &mut Damage, _: &Tables, _: &Original, random: &mut Random) {
     }
 }
 
+/// The last reached slot one time in four, else any.
 fn cut(d: &mut Damage, tables: &Tables, o: &Original, random: &mut Random) {
-    d.len = reached(tables, o, random).1;
+    let last = || tables.marks.iter().rposition(|m| *m != 0).unwrap();
+    d.len = if random.below(4) == 0 { last() } else { reached(tables, o, random).1 };
 }
 
 fn multiplier(d: &mut Damage, _: &Tables, _: &Original, random: &mut Random) {

@@ -1,6 +1,5 @@
 //! Both builds and the search of one block, against `anew`, a builder written from the rulebook alone.
 use crate::anew;
-use crate::method;
 use crate::ours::{self, Found, Record, Records, Verdict, ALL, LIMIT};
 use crate::random::Random;
 use crate::tally::{Report, Tally};
@@ -297,26 +296,6 @@ pub fn seeds(r: &mut Report, random: &mut Random, small: bool) {
         r.say(|| format!("             {s:#018x}  used {}  {} at block {block}", handed.used, handed.most()));
     }
     rows.end(r, "whole builds from a seed, budget 16,777,216, 107,648 slots");
-    let mut t = r.start("3 seeds, the original's method in plain Rust: used, records, every slot of table and marks");
-    method::gen_rays();
-    for s in [3_070, 1, 0xAEA0_B056_15E9_7B6C].into_iter().take(if small { 1 } else { 3 }) {
-        method::gen_all_magic(s);
-        let mut ours = run(&seed(s, LIMIT, ALL, ALL), random, true);
-        t.same(ours.handed.used, method::used() as u64, || format!("seed {s:#x}, used"));
-        for (b, r) in ours.handed.records().into_iter().enumerate() {
-            let m = method::magic(b);
-            t.same(r.multiplier, m.magic_number, || format!("seed {s:#x}, multiplier of block {b}"));
-            t.same(r.mask, m.mask, || format!("seed {s:#x}, mask of block {b}"));
-            t.same(r.offset as u64, m.offset as u64, || format!("seed {s:#x}, offset of block {b}"));
-            t.same(r.shift as u64, m.rightshift as u64, || format!("seed {s:#x}, shift of block {b}"));
-        }
-        for i in 0..ALL {
-            let (table, marks) = method::slot(i);
-            t.same(ours.table.lent()[i], table, || format!("seed {s:#x}, table slot {i}"));
-            t.same(ours.marks.lent()[i], marks, || format!("seed {s:#x}, marks slot {i}"));
-        }
-    }
-    r.end(t);
 }
 
 // ---- every budget with every length

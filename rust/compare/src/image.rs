@@ -8,6 +8,7 @@ use crate::ours::{self, Build, ALL};
 use crate::tally::Report;
 use crate::theirs::{kind_square, Original};
 use std::process::Command;
+use std::time::Instant;
 
 pub fn run(r: &mut Report, o: &Original, small: bool) {
     r.say(|| "             image: FNV-1a over 107,648 slots, little-endian, zeros after the used ones".into());
@@ -17,7 +18,7 @@ pub fn run(r: &mut Report, o: &Original, small: bool) {
         });
     }
     let splitmix = images::splitmix();
-    for (seed, i) in images::SEEDS.into_iter().zip(&splitmix) {
+    for (seed, i) in &splitmix {
         let name = format!("SplitMix64 from seed {seed:#x}");
         r.say(|| format!("             the original with {name:<46} used {}  image {:016X}", i.moves.len(), fnv(&i.slots())));
     }
@@ -41,11 +42,11 @@ pub fn run(r: &mut Report, o: &Original, small: bool) {
         let build = |table: &mut [u64], marks: &mut [u64]| ours::build_lent(&i.multipliers(), table, marks);
         against(r, o, i, &format!("from the multipliers with {}", i.name), &build, true);
     }
-    for (seed, i) in images::SEEDS.into_iter().zip(&splitmix) {
-        let build = |table: &mut [u64], marks: &mut [u64]| ours::build(seed, ours::LIMIT, table, marks);
+    for (seed, i) in &splitmix {
+        let build = |table: &mut [u64], marks: &mut [u64]| ours::build(*seed, ours::LIMIT, table, marks);
         against(r, o, i, &format!("from seed {seed:#x}, SplitMix64 in SmallRng's place"), &build, false);
     }
-    one_image(r, &images::SEEDS[..if small { 1 } else { 3 }]);
+    one_image(r, &splitmix[..if small { 1 } else { splitmix.len() }]);
 }
 
 /// A build of ours against an image of the original. Rooks come first in the original's lists, bishops in ours; src/images.rs turns
@@ -100,14 +101,17 @@ fn prints(seed: u64) -> [u64; 3] {
 
 /// What a run of its own prints: compare image SEED.
 pub fn print(seed: u64) -> String {
+    let begun = Instant::now();
+    built(seed);
+    let seconds = begun.elapsed().as_secs_f64();
     let [table, marks, records] = prints(seed);
-    format!("{table:016X} marks {marks:016X} records {records:016X}")
+    format!("{table:016X} marks {marks:016X} records {records:016X} seconds {seconds:.6}")
 }
 
 /// Two runs of this program for each seed, and the build of this run.
-fn one_image(r: &mut Report, seeds: &[u64]) {
+fn one_image(r: &mut Report, seeds: &[(u64, Image)]) {
     let mut t = r.start("ours from one seed, two runs of their own and this one: image of table, marks, records");
-    for seed in seeds {
+    for (seed, _) in seeds {
         let here = prints(*seed);
         for run in 1..=2 {
             let program = std::env::current_exe().unwrap();

@@ -26,15 +26,10 @@ pub fn all() -> [Image; 3] {
     ]
 }
 
-/// The seeds, and the original with SplitMix64 from them under the name SmallRng.
-pub const SEEDS: [u64; 3] = include!(concat!(env!("OUT_DIR"), "/seeds.rs"));
-
-pub fn splitmix() -> [Image; 3] {
-    [
-        Image::read("SplitMix64, first seed", include_str!(concat!(env!("OUT_DIR"), "/tables_splitmix_0.rs"))),
-        Image::read("SplitMix64, second seed", include_str!(concat!(env!("OUT_DIR"), "/tables_splitmix_1.rs"))),
-        Image::read("SplitMix64, third seed", include_str!(concat!(env!("OUT_DIR"), "/tables_splitmix_2.rs"))),
-    ]
+/// Seeds, and the original with SplitMix64 from them under the name SmallRng.
+pub fn splitmix() -> Vec<(u64, Image)> {
+    let texts = include!(concat!(env!("OUT_DIR"), "/splitmix.rs"));
+    texts.into_iter().map(|(seed, text)| (seed, Image::read("SplitMix64", text))).collect()
 }
 
 impl Image {

@@ -2,13 +2,14 @@
 //!
 //! compare [PART..]         compares; without a word all parts
 //! compare record FOLDER    writes stdin and stdout of crates/recorded: questions and the original's answers
-//! compare image SEED       prints the image of our build from a seed
+//! compare image SEED       prints the image of our build from a seed, and its seconds
+//! compare speed [QUERIES [ROUNDS]]    speed, ours and the original's: 10000000 queries, 5 rounds
 //!
 //! COMPARE_RANDOM=N sets the random cases of a row (3,000,000), COMPARE_TRIALS=N the damaged builds of a sort that the audit is asked
 //! about (200), COMPARE_SEED=S the seed of both. COMPARE_FLIP=PART,ROW,INDEX,BIT flips one bit of our answer in one comparison.
 extern crate original;
 
-#[allow(dead_code)] // a copy, whole: not everything is asked for here
+#[allow(dead_code)] // the rulebook whole: not everything of it is asked for here
 #[rustfmt::skip]
 mod anew;
 mod audit;
@@ -19,13 +20,12 @@ mod damage;
 mod image;
 mod images;
 mod magic;
-#[rustfmt::skip]
-mod method;
 mod ours;
 mod pext;
 mod plain;
 mod random;
 mod record;
+mod speed;
 mod tally;
 mod theirs;
 mod walks;
@@ -73,7 +73,7 @@ pub fn part(name: &str, r: &mut Report, o: &Original, s: Size) {
 }
 
 fn usage(message: &str) -> ! {
-    eprintln!("{message}\ncompare [PART..], parts: {}, damage; compare record FOLDER; compare image SEED", PARTS.join(", "));
+    eprintln!("{message}\ncompare [PART..], parts: {}, damage; compare record FOLDER; compare image SEED; compare speed [QUERIES [ROUNDS]]", PARTS.join(", "));
     exit(2)
 }
 
@@ -103,6 +103,14 @@ fn main() {
             Ok(seed) => return println!("{}", image::print(seed)),
             Err(_) => usage("SEED is a decimal number"),
         },
+        "speed" if words.len() <= 3 => {
+            let number = |i: usize, default: usize| match words.get(i).map(|w| w.parse()) {
+                None => default,
+                Some(Ok(n)) if n > 0 => n,
+                _ => usage("QUERIES and ROUNDS are decimal numbers above 0"),
+            };
+            return speed::run(number(1, 10_000_000), number(2, 5));
+        }
         _ => {}
     }
     if let Some(w) = words.iter().find(|w| !PARTS.contains(&w.as_str()) && *w != "damage") {
