@@ -10,7 +10,7 @@ use Rattle.bmis.specs.Bmis.{sizeAt, offsetOf, partOf}
 use Rattle.packing.specs.Pack.{firstPassing, takenAt, bySearch}
 use Rattle.splitmix.specs.SplitMix.{advanced, mixed, after, output, candidateOf, stateAt, candidate}
 use Rattle.candidates.specs.OneBlock.{searchOf}
-use Rattle.magic.specs.LookUp.{slotIn, lookUp}
+use Rattle.magic.specs.LookUp.{slotIn, lookWith}
 use Rattle.magic.specs.Audit.{inTurn, exact, blockSays, blocksSay, auditSays}
 use Rattle.answers.specs.Tried.{Each}
 use Rattle.answers.specs.Board.{table}
@@ -18,5 +18,5 @@ use Rattle.bits.proofs.SameList.{sameList}
 use Rattle.answers.proofs.Tests.{tested, each}
 
 pub holds : Each table
-unfolding sameList tested pext pdep least sum rays mask attack blockOf kindOf squareOf bitsOf sizeOf shiftOf subset sizeAt offsetOf partOf Bmis.lookUp firstPassing takenAt bySearch advanced mixed after output candidateOf stateAt candidate searchOf slotIn lookUp inTurn exact blockSays blocksSay auditSays
+unfolding sameList tested pext pdep least sum rays mask attack blockOf kindOf squareOf bitsOf sizeOf shiftOf subset sizeAt offsetOf partOf Bmis.lookUp firstPassing takenAt bySearch advanced mixed after output candidateOf stateAt candidate searchOf slotIn lookWith inTurn exact blockSays blocksSay auditSays
 holds = each table tt

@@ -1,7 +1,7 @@
 // Magic look-ups, and the audit of any records and any table.
 //
-// Holds: `get_moves` by kind and square and under the original's two names, for one record by value and a lent table; `audit`
-// of 128 records.
+// Holds: `get_moves` by kind and square and under the original's two names, for one record by value and a lent table, and
+// `look_with` for a caller that has the rays; `audit` of 128 records.
 // Ports: src/magic.rs (lines 24 to 36 and 54 to 66): get_rook_moves and get_bishop_moves. The static tables became
 // arguments, get_unchecked a test.
 // Adds: refusals 1, 2, 8 and 7; the audit.
@@ -13,7 +13,7 @@ ghost use Prim.Native.Nat.{ℕ, _≤_};
 ghost use Rattle.refusal.specs.Paper.{said};
 ghost use Rattle.board.specs.Board.{onBlock};
 ghost use Rattle.board.specs.Blocks.{kindOf, squareOf};
-ghost use Rattle.magic.specs.LookUp.{slotIn, lookUp};
+ghost use Rattle.magic.specs.LookUp.{slotIn, lookWith, lookUp};
 ghost use Rattle.magic.specs.Audit.{exact, checked, subsetSays, blockSays, blocksSay, auditSays};
 
 // ---- the look-up
@@ -27,9 +27,9 @@ fn slot_in(magic: Record, blockers: u64) -> u64
     magic.offset as u64 + (product >> magic.shift)
 }
 
-// By the block's number: 8, then 7.
-fn look_up(block: usize, blockers: u64, magic: Record, table: &[u64]) -> Answer
-    ensures { λ r. ⌜ said r ≡ lookUp (kindOf block) (squareOf block) blockers magic (now (table .entry)) ⌝ }
+// With the rays at hand, for a batch that lists them once: 8, then 7.
+pub fn look_with(rays: u64, blockers: u64, magic: Record, table: &[u64]) -> Answer
+    ensures { λ r. ⌜ said r ≡ lookWith rays blockers magic (now (table .entry)) ⌝ }
 {
     if (magic.shift < 52) | (magic.shift > 59) {
         return Answer::Refuses(Refusal::Shift);
@@ -38,7 +38,14 @@ fn look_up(block: usize, blockers: u64, magic: Record, table: &[u64]) -> Answer
     if slot >= table.len() {
         return Answer::Refuses(Refusal::Index);
     }
-    Answer::Gives(table[slot] & rays::rays_at(block))
+    Answer::Gives(table[slot] & rays)
+}
+
+// By the block's number.
+fn look_up(block: usize, blockers: u64, magic: Record, table: &[u64]) -> Answer
+    ensures { λ r. ⌜ said r ≡ lookUp (kindOf block) (squareOf block) blockers magic (now (table .entry)) ⌝ }
+{
+    look_with(rays::rays_at(block), blockers, magic, table)
 }
 
 pub fn get_moves(kind: u8, sq: u8, blockers: u64, magic: Record, table: &[u64]) -> Answer

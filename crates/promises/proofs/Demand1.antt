@@ -11,7 +11,7 @@ use lib.Dec.{ltb}
 use lib.ListN.{length, replicate}
 use Rattle.refusal.specs.Paper.{Said, gives, refuses, refuseIf}
 use Rattle.square.specs.Square.{squareOf}
-use Rattle.board.specs.Board.{onBlock}
+use Rattle.board.specs.Board.{rays, onBlock}
 use Rattle.board.proofs.Blocks.{on-block}
 use Rattle.bmis.specs.Bmis as Bmis
 use Rattle.splitmix.specs.SplitMix.{candidate}
@@ -40,7 +40,7 @@ refused-if : {A : Type 0} {c : Bool} (n : ℕ) (x : Said A) → c ≡ true → r
 refused-if n x e = ap (λ (c : Bool). refuseIf c n x) e
 
 shift-refused : (kind sq blockers : ℕ) (r : Record) (table : List ℕ) → (r .shift < 52) ⊎ (59 < r .shift) → lookUp kind sq blockers r table ≡ refuses 8 []
-shift-refused kind sq blockers r table h = sym (look-8 kind sq blockers r table (outside-is (r .shift) h))
+shift-refused kind sq blockers r table h = sym (look-8 (rays kind sq) blockers r table (outside-is (r .shift) h))
   where
     outside-is : (n : ℕ) → (n < 52) ⊎ (59 < n) → outside n ≡ true
     outside-is n (inl l) = ap (λ (c : Bool). c || ltb 59 n) (lt-ltb n 52 l)
@@ -89,7 +89,7 @@ demand-1 =
       pext-refused = pext-refused;
       pext-look-up-refused = λ kind sq entries x h g f. on-block kind sq _ h g ∙ refused-if 9 x (ap not (ne-eqb entries 107648 f));
       shift-refused = shift-refused;
-      index-refused = λ kind sq blockers r table h g l. sym (look-7 kind sq blockers r table (inside (r .shift) (h, g)) l);
+      index-refused = λ kind sq blockers r table h g l. sym (look-7 (rays kind sq) blockers r table (inside (r .shift) (h, g)) l);
       budget-refused = budget-refused;
       lengths-refused = lengths-refused;
       list-refused = list-refused;

@@ -1,3 +1,4 @@
 pub mod Demands
+pub mod Search
 pub mod Audited
 pub mod Examples

@@ -1,13 +1,16 @@
 -- A batch under way: the first i queries are answered.
 -- Assumes nothing.
 use Prim.Native.Nat.{ℕ, _+_, _≤_, _<_, zero-le}
-use mathlib.Core.Path.{_≡_, refl, ap, _∙_}
+use mathlib.Core.Path.{_≡_, refl, ap, ap₂, _∙_}
 use mathlib.Core.List.{List}
 use native.Mathlib.Omega.{arith}
-use lib.ListN.{length, set, length-set}
+use lib.ListN.{length, getD, set, length-set}
 use Rattle.bits.specs.Shown.{shown}
-use Rattle.bits.proofs.Shown.{over-store}
+use Rattle.bits.proofs.Shown.{over-store, getD-shown}
 use Rattle.refusal.specs.Paper.{Said}
+use Rattle.board.specs.Board.{rays}
+use Rattle.board.specs.Blocks.{blockOf, kindOf, squareOf}
+use Rattle.board.proofs.Blocks.{block-lt, kind-block, square-block}
 use Rattle.slider.specs.declared.SliderAnswer.{SliderAnswer}
 use Rattle.slider.specs.Flat.{answerOf}
 use Rattle.slider.specs.Batch.{over, Batch}
@@ -43,3 +46,10 @@ module _ {asked : ℕ → Said ℕ} {n : ℕ} {numbers₀ moves₀ : List ℕ} w
           numbers-now = g .numbers-are ∙ ap (λ (k : ℕ). over k (λ j. answerOf (asked j) .number) numbers₀) (q ∙ e);
           moves-now = g .moves-are ∙ ap (λ (k : ℕ). over k (λ j. answerOf (asked j) .value) moves₀) (q ∙ e);
         }
+
+-- the rays of a query's block, from the list of all
+pub listed-rays : (list : List ℕ) (k s b : ℕ) → list ≡ shown 128 (λ b. rays (kindOf b) (squareOf b)) → k ≤ 1 → s ≤ 63 → b ≡ blockOf k s → getD list b 0 ≡ rays k s
+listed-rays list k s b e hk hs eb =
+    ap₂ (λ (l : List ℕ) (n : ℕ). getD l n 0) e eb
+    ∙ getD-shown 128 (blockOf k s) (λ b. rays (kindOf b) (squareOf b)) 0 (block-lt k s (omega arith) (omega arith))
+    ∙ ap₂ rays (kind-block k s (omega arith) (omega arith)) (square-block k s (omega arith))

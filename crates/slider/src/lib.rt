@@ -13,16 +13,17 @@ use refusal::Refusal;
 use square::Name;
 use square::Step;
 ghost use mathlib.Core.Path.{_≡_};
-ghost use Prim.Native.Nat.{_≤_, _<_, min};
+ghost use Prim.Native.Nat.{ℕ, _≤_, _<_, min};
 ghost use lib.ListN.{length};
 ghost use Rattle.refusal.specs.Paper.{said, gives};
+ghost use Rattle.bits.specs.Shown.{shown};
 ghost use Rattle.square.specs.Square.{readName, nameSaid, stepped, upSaid, downSaid, leftSaid, rightSaid};
 ghost use Rattle.board.specs.Board.{rays, mask, attack, onBlock};
-ghost use Rattle.board.specs.Blocks.{blockOf, sizeOf, shiftOf, subset};
+ghost use Rattle.board.specs.Blocks.{blockOf, kindOf, squareOf, sizeOf, shiftOf, subset};
 ghost use Rattle.bmis.specs.Bmis.{ofLength, inTable, filled, lookUp as pextLookUp, extentOf};
 ghost use Rattle.candidates.specs.OneBlock.{searchOf};
 ghost use Rattle.gen_magic.specs.Builds.{told, fromSeed, fromLent};
-ghost use Rattle.magic.specs.LookUp.{lookUp};
+ghost use Rattle.magic.specs.LookUp.{lookWith, lookUp};
 ghost use Rattle.magic.specs.Audit.{auditSays};
 ghost use Rattle.slider.specs.Flat.{valueAt, answerOf, verdictOf, foundOf, numberIn, blockIn, buildOf, handed, handedOf, placeOf, nameOf, stepOf};
 ghost use Rattle.slider.specs.Batch.{Batch, fewest, walkAsked, pextAsked, movesAsked};
@@ -478,6 +479,36 @@ fn block_at(kind: u8, sq: u8) -> usize
     rook * 64 + square
 }
 
+// The rays of all blocks, listed once for a batch: a call for each query would cost more than the look-up.
+fn all_rays() -> [u64; 128]
+    ensures { λ r. ⌜ r ≡ shown 128 (λ (b : ℕ). rays (kindOf b) (squareOf b)) ⌝ }
+{
+    let mut list: [u64; 128] = [0; 128];
+    let mut block: usize = 0;
+    while block < 128 {
+        list[block] = rays::rays_at(block);
+        block += 1;
+    }
+    list
+}
+
+// A look-up with the rays at hand; kind and square are tested all the same.
+fn moves_with(
+    kind: u8,
+    sq: u8,
+    blockers: u64,
+    magic: Record,
+    rays: u64,
+    table: &[u64],
+) -> SliderAnswer
+    ensures { λ r. ⌜ r ≡ answerOf (onBlock kind sq (lookWith rays blockers magic (now (table .entry)))) ⌝ }
+{
+    match rays::block(kind, sq) {
+        Answer::Gives(_) => answer(magic::look_with(rays, blockers, magic, table)),
+        Answer::Refuses(refusal) => answer(Answer::Refuses(refusal)),
+    }
+}
+
 #[no_mangle]
 pub extern "C" fn slider_moves_batch(
     set: SliderRecords,
@@ -491,12 +522,20 @@ pub extern "C" fn slider_moves_batch(
     ensures { λ r. ⌜ Batch (movesAsked (set .records) (now (table .entry)) (now (kinds .entry)) (now (squares .entry)) (now (blockers .entry))) (fewest (length (now (kinds .entry))) (length (now (squares .entry))) (length (now (blockers .entry))) (length (now (numbers .entry))) (length (now (moves .entry)))) r (now (numbers .entry)) (now (moves .entry)) (now (numbers .exit)) (now (moves .exit)) ⌝ }
 {
     let records = set.records;
+    let rays = all_rays();
     let queries = fewer(fewer(kinds.len(), squares.len()), blockers.len());
     let n = fewer(queries, fewer(numbers.len(), moves.len()));
     let mut i: usize = 0;
     while i < n {
-        let magic = records[block_at(kinds[i], squares[i])];
-        let found = slider_moves(kinds[i], squares[i], blockers[i], magic, table);
+        let block = block_at(kinds[i], squares[i]);
+        let found = moves_with(
+            kinds[i],
+            squares[i],
+            blockers[i],
+            records[block],
+            rays[block],
+            table,
+        );
         numbers[i] = found.number;
         moves[i] = found.value;
         i += 1;
