@@ -11,20 +11,25 @@ top = pathlib.Path(__file__).resolve().parent.parent
 listed = top / "docs" / "EDITS.md"
 head = """# Must-fail edits
 
-Each changes one line of code or of a definition, keeps the shape of the rest, and must be refused by the prover: `rt ci` tries all
-of them. What each tries stands first in its file, `crates/CRATE/must-fail/EDIT.edit`. Written by tools/edits.py.
+Each changes a line of code or of a definition (two lines where the second says `and`), keeps the shape of the rest, and must be
+refused by the prover: `rt ci` tries all of them. What each tries stands first in its file, `crates/CRATE/must-fail/EDIT.edit`.
+Written by tools/edits.py.
 """
 
 
 def fields(path):
-    tries, rest = [], {}
+    """What an edit tries, and its changes: file, old, new."""
+    tries, changes = [], []
     for line in path.read_text().splitlines():
         if line.startswith("#"):
             tries.append(line.lstrip("# "))
         elif line:
             key, value = line.split(": ", 1)
-            rest[key] = value
-    return " ".join(tries), rest
+            if key == "file":
+                changes.append([value])
+            else:
+                changes[-1].append(value)
+    return " ".join(tries), changes
 
 
 def code(text):
@@ -41,8 +46,9 @@ def text():
             continue
         out += [f"\n## {crate}\n", "| edit | tries | in | old | new |", "|---|---|---|---|---|"]
         for edit in edits:
-            tries, rest = fields(edit)
-            out.append(f"| {edit.stem} | {tries} | {rest['file']} | {code(rest['old'])} | {code(rest['new'])} |")
+            tries, changes = fields(edit)
+            for k, (name, old, new) in enumerate(changes):
+                out.append(f"| {edit.stem if k == 0 else 'and'} | {tries if k == 0 else ''} | {name} | {code(old)} | {code(new)} |")
         count += len(edits)
     return head + f"{count} edits.\n" + "\n".join(out) + "\n"
 

@@ -34,13 +34,10 @@ pub both-r : (a b : Bool) → T (a && b) → T b
 both-r true b t = t
 both-r false b t = absurd t
 
-abbrev pub implies : Bool → Bool → Bool
-implies true b = b
-implies false b = true
-
-pub follows : (a b : Bool) → T (implies a b) → T a → T b
-follows true b t h = t
-follows false b t h = absurd h
+pub and-again : (a b : Bool) → ((a && b) && a) ≡ (a && b)
+and-again true true = refl
+and-again true false = refl
+and-again false b = refl
 
 -- ---- at every number below n
 

@@ -1,7 +1,7 @@
 -- The laws of PEXT and PDEP over any mask. Callers use these, and not the definitions' texts.
 -- Assumes nothing.
 use mathlib.Core.Path.{_≡_, refl, sym, ap, _∙_, subst}
-use mathlib.Core.Bool.{Bool, true, false, _&&_}
+use mathlib.Core.Bool.{Bool, true, _&&_}
 use Prim.Native.Nat.{ℕ, zero, suc, _%_, _^_, _<_, min}
 use native.Mathlib.Nat.{lt-of-le-of-lt, min-comm, zero-min}
 use lib.Dec.{eqb}
@@ -10,6 +10,7 @@ use Rattle.bits.specs.Set.{bit, has, countBelow, count}
 use Rattle.bits.specs.Intel.{pext, pdep}
 use Rattle.bits.proofs.Digit.{bit-lt, over, ext}
 use Rattle.bits.proofs.Sets.{bit-and, has-and, has-ext}
+use Rattle.bits.proofs.Every.{and-again}
 use Rattle.bits.proofs.Count.{nth}
 use Rattle.bits.proofs.Forms.{packed-lt, bit-packed, packed-spread, spread-lt, bit-spread}
 use Rattle.bits.proofs.Intel.{pext-is, pdep-is}
@@ -51,12 +52,7 @@ nth-square m j l =
 pub deposit-in : (i m : ℕ) → bitAnd (pdep i m) m ≡ pdep i m
 deposit-in i m =
     has-ext 64 (bitAnd (pdep i m) m) (pdep i m) (lt-of-le-of-lt (and-le-l (pdep i m) m) (deposit-lt i m)) (deposit-lt i m)
-    (λ t l. has-and (pdep i m) m t ∙ ap (λ (b : Bool). b && has m t) (has-deposit i m t l) ∙ within (has m t) (has i (countBelow m t)) ∙ sym (has-deposit i m t l))
-  where
-    within : (a b : Bool) → ((a && b) && a) ≡ (a && b)
-    within true true = refl
-    within true false = refl
-    within false b = refl
+    (λ t l. has-and (pdep i m) m t ∙ ap (λ (b : Bool). b && has m t) (has-deposit i m t l) ∙ and-again (has m t) (has i (countBelow m t)) ∙ sym (has-deposit i m t l))
 
 -- extract after deposit
 pub extract-deposit : (i m : ℕ) → pext (pdep i m) m ≡ i % 2 ^ count m

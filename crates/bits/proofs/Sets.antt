@@ -2,7 +2,7 @@
 -- Assumes nothing.
 use mathlib.Core.Path.{_≡_, refl, sym, ap, _∙_}
 use mathlib.Core.Bool.{Bool, true, false, xor, _&&_, _||_}
-use Prim.Native.Nat.{ℕ, zero, suc, _+_, _*_, _/_, _%_, _^_, _≤_, _<_, min, max}
+use Prim.Native.Nat.{ℕ, zero, suc, _+_, _*_, _/_, _%_, _^_, _<_, min, max}
 use native.Mathlib.Nat.{le-refl, lt-of-le-of-lt, add-zero, one-mul, min-le-left}
 use native.Mathlib.Omega.{arith}
 use native.Mathlib.Decide.{decLt, ℕ-discrete}
@@ -34,10 +34,6 @@ bit-has n t e = sym (digit-has n t) ∙ ap digit e
 
 pub has-ext : (k a b : ℕ) → a < 2 ^ k → b < 2 ^ k → ((t : ℕ) → t < k → has a t ≡ has b t) → a ≡ b
 has-ext k a b ha hb h = ext k a b ha hb (λ t l. sym (digit-has a t) ∙ ap digit (h t l) ∙ digit-has b t)
-
-pub has-past : (n k t : ℕ) → n < 2 ^ k → k ≤ t → has n t ≡ false
-unfolding has
-has-past n k t h l = ap (λ (x : ℕ). eqb x 1) (bit-past n k t h l)
 
 pub has-zero : (t : ℕ) → has zero t ≡ false
 unfolding has

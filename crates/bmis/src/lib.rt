@@ -2,7 +2,7 @@
 //
 // Holds: the fill (`gen_all_bmis`, `generate_bmis` for one block), the look-up by kind and square and under the original's
 // two names, a square's block as a returned part, and where that block lies.
-// Ports: src/gen_tables/bmis.rs (lines 31 to 72) and the two *_bmi look-ups of src/magic.rs (lines 38 to 52 and 68 to 82).
+// Ports: src/gen_tables/bmis.rs (lines 31 to 74) and the two *_bmi look-ups of src/magic.rs (lines 38 to 52 and 68 to 82).
 // The static tables became a lent slice of 107,648 entries; `_pext_u64` and `_pdep_u64` are loops (crate `bits`).
 // Adds: refusals 1, 2 and 9; a look-up in any entries; the part and its place.
 use refusal::Answer;

@@ -1,4 +1,4 @@
--- The four assert_eq! of `generate_magic` (src/gen_tables/magic.rs, lines 49 to 58), as facts about the crate's lists.
+-- The four assert_eq! of `generate_magic` (src/gen_tables/magic.rs, lines 49 to 57), as facts about the crate's lists.
 -- Assumes nothing.
 use Prim.Native.Nat.{ℕ, zero, suc, _-_, _^_, _<_}
 use mathlib.Core.Path.{_≡_, sym, ap, _∙_, fun-ext}

@@ -8,7 +8,7 @@ use lib.Bits.{bitAnd, bitOr, or-lt, and-lt}
 use lib.Dec.{T, ltb, ltb→lt, T-not, lit<}
 use Rattle.bits.specs.Set.{has}
 use Rattle.bits.proofs.Sets.{has-and, has-or, has-pow, has-zero, has-ext, has-setOf, setOf-lt}
-use Rattle.bits.proofs.Every.{is-true, both-l, both-r, every-cong, every-true}
+use Rattle.bits.proofs.Every.{is-true, both-l, both-r, and-again, every-cong, every-true}
 use Rattle.board.specs.Board.{onRay, rays, inMask, mask, between, clear, attack}
 use Rattle.board.specs.Walk.{line, upTo, walk}
 use Rattle.board.proofs.Lists.{isIn, before, free, has-upTo, upTo-lt, upTo-same}
@@ -101,11 +101,7 @@ module _ (k s : ℕ) (hk : k < 2) (hs : s < 64) where
   pub attack-rays : (b : ℕ) → bitAnd (attack k s b) (rays k s) ≡ attack k s b
   attack-rays b =
       has-ext 64 (bitAnd (attack k s b) (rays k s)) (attack k s b) (and-lt 64 (attack k s b) (rays k s) (attack-lt k s b) (rays-lt k s)) (attack-lt k s b)
-      (λ t h. has-and (attack k s b) (rays k s) t ∙ ap₂ _&&_ (has-attack k s b t h) (has-rays k s t h) ∙ again (onRay k s t) (clear k s b t) ∙ sym (has-attack k s b t h))
-    where
-      again : (r c : Bool) → ((r && c) && r) ≡ (r && c)
-      again true c = and-true c
-      again false c = refl
+      (λ t h. has-and (attack k s b) (rays k s) t ∙ ap₂ _&&_ (has-attack k s b t h) (has-rays k s t h) ∙ and-again (onRay k s t) (clear k s b t) ∙ sym (has-attack k s b t h))
 
   -- "No walk is empty": the nearest squares are in each
   pub attack-some : (b : ℕ) → attack k s b ≡ 0 → ⊥

@@ -13,7 +13,7 @@ abbrev pub cond : {A : Type 0} → Bool → A → A → A
 cond true a b = a
 cond false a b = b
 
--- ---- src/square.rs, lines 69 to 189: `Square(rank << 3 ^ file)`, `self.0 >> 3`, `self.0 & 7`
+-- ---- src/square.rs, lines 70 to 184: `Square(rank << 3 ^ file)`, `self.0 >> 3`, `self.0 & 7`
 
 unfoldable pub make-square : ℕ → ℕ → ℕ
 make-square rank file = bitXor (rank * 2 ^ 3) file
@@ -40,7 +40,7 @@ unfoldable pub right : ℕ → Option ℕ
 unfolding make-square get-rank get-file
 right sq = cond (eqb (get-file sq) 7) none (some (make-square (get-rank sq) (get-file sq + 1)))
 
--- ---- src/gen_tables/magic_helpers.rs, lines 16 to 52
+-- ---- src/gen_tables/magic_helpers.rs, lines 17 to 51
 
 -- `map_or(None, f)`
 abbrev pub map-or-none : Option ℕ → (ℕ → Option ℕ) → Option ℕ
@@ -55,7 +55,7 @@ unfoldable pub bishop-directions : List (ℕ → Option ℕ)
 unfolding left right up down
 bishop-directions = (λ sq. map-or-none (left sq) up) ∷ (λ sq. map-or-none (right sq) up) ∷ (λ sq. map-or-none (left sq) down) ∷ (λ sq. map-or-none (right sq) down) ∷ []
 
--- ---- src/gen_tables/rays.rs, lines 11 to 51, and magic_helpers.rs, lines 58 to 74 and 126 to 138
+-- ---- src/gen_tables/rays.rs, lines 12 to 52, and magic_helpers.rs, lines 58 to 74 and 127 to 138
 
 -- `ALL_SQUARES.iter().filter(p).fold(EMPTY, |b, s| b | from_square(s))`, over the first n squares
 unfoldable pub fold-or : ℕ → (ℕ → Bool) → ℕ
@@ -86,7 +86,7 @@ magic-mask zero sq =
     (complement (fold-or 64 (λ edge. (eqb (get-rank sq) (get-rank edge) && (eqb (get-file edge) 0 || eqb (get-file edge) 7)) || (eqb (get-file sq) (get-file edge) && (eqb (get-rank edge) 0 || eqb (get-rank edge) 7)))))
 magic-mask (suc piece) sq = bitAnd (get-rays (suc piece) sq) (complement gen-edges)
 
--- ---- src/bitboard.rs, lines 321 to 336: the iterator, and `collect`
+-- ---- src/bitboard.rs, lines 322 to 336: the iterator, and `collect`
 
 unfoldable pub collect-in : ℕ → ℕ → List ℕ
 collect-in zero b = []
@@ -97,7 +97,7 @@ unfoldable pub collect : ℕ → List ℕ
 unfolding collect-in
 collect b = collect-in 64 b
 
--- ---- magic_helpers.rs, lines 76 to 123
+-- ---- magic_helpers.rs, lines 76 to 125
 
 -- `for j in 0..mask.popcnt() { if i & (1 << j) == (1 << j) { current |= from_square(squares[j]) } }`
 unfoldable pub question : List ℕ → ℕ → ℕ → ℕ

@@ -2,7 +2,7 @@
 //
 // Holds: for a kind and a square, with refusals 1 and 2: `magic_mask`, `size`, `rightshift`, `subset`, `walk`; for a block
 // number, any number: the same without refusals, under names in `_at`.
-// Ports: src/gen_tables/magic_helpers.rs (lines 16 to 138). The lists of direction functions became a direction number
+// Ports: src/gen_tables/magic_helpers.rs (lines 17 to 138). The lists of direction functions became a direction number
 // and a match, the vectors of questions and answers the functions `subset` and `walk` of a number; `rightshift` is from
 // src/gen_tables/magic.rs (line 80).
 // Adds: refusals 1 and 2. `random_bitboard` is the crate `splitmix`'s.

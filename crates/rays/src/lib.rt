@@ -1,7 +1,7 @@
 // Rays: the squares that a piece would attack on an empty board.
 //
 // Holds: block numbers with refusals 1 and 2; the rays of a block, and of a kind and a square.
-// Ports: src/gen_tables/rays.rs (lines 11 to 51). The loops over the board became a list (crate `tables`) that is proved
+// Ports: src/gen_tables/rays.rs (lines 12 to 52). The loops over the board became a list (crate `tables`) that is proved
 // against the definition; the two tables RAYS[1] and RAYS[0] became blocks 0 to 63 and 64 to 127.
 // Adds: refusals 1 and 2.
 use refusal::Answer;

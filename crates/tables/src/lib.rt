@@ -4,6 +4,7 @@
 // at each use. Past the list both answer 0. What the numbers mean is proved where they are used (crates `rays`, `bmis`).
 // Ports: the tables RAYS of src/gen_tables/rays.rs (line 10) and the offsets of src/gen_tables/bmis.rs (line 40), worked out
 // beforehand.
+// Adds: the lists themselves, which the original works out when it is built.
 ghost use mathlib.Core.Path.{_≡_};
 ghost use lib.ListN.{getD};
 ghost use Rattle.tables.specs.Rays.{rays};

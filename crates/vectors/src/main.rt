@@ -5,6 +5,7 @@
 // crates/vectors/stdout has what is right: written by tools/vectors.c, which shares no code with the crates and takes PEXT,
 // PDEP, the product and the counts from the processor's instructions, and the figures' rows and the names from a typed list.
 // Ports: nothing.
+// Adds: all of it.
 use bitboard::Found;
 use libc::STDOUT_FILENO;
 use refusal::Answer;
