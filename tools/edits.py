@@ -2,9 +2,10 @@
 """docs/EDITS.md from the must-fail edits: what each tries, and its change.
 
 edits.py          writes docs/EDITS.md
-edits.py check    status 1 where docs/EDITS.md is not what it would write
+edits.py check    status 1 where docs/EDITS.md is not what it would write, or docs/PROMISES.md does not name an edit
 """
 import pathlib
+import re
 import sys
 
 top = pathlib.Path(__file__).resolve().parent.parent
@@ -54,6 +55,10 @@ def text():
 
 
 if sys.argv[1:] == ["check"]:
+    named = set(re.findall(r"\w+", (top / "docs" / "PROMISES.md").read_text()))
+    missing = [str(p) for p in sorted(top.glob("crates/*/must-fail/*.edit")) if p.stem not in named]
+    if missing:
+        sys.exit("docs/PROMISES.md does not name " + ", ".join(missing))
     sys.exit(0 if listed.exists() and listed.read_text() == text() else f"{listed.name} is not what tools/edits.py writes")
 elif sys.argv[1:]:
     sys.exit(__doc__)

@@ -1,4 +1,4 @@
--- What the private arrays of a trial hold.
+-- What the private arrays of a trial hold. No public statement rests on this file.
 use Prim.Native.Nat.{ℕ, _*_, _/_, _%_, _^_, _≤_, _<_}
 use mathlib.Core.Path.{_≡_}
 use mathlib.Core.Bool.{Bool, not, _&&_}

@@ -1,4 +1,4 @@
--- Two steps in turn, as the private steps of a bishop take them.
+-- Two steps in turn, as the private steps of a bishop take them. No public statement rests on this file.
 use Prim.Native.Nat.{ℕ}
 use mathlib.Core.Bool.{Bool, true, false}
 use mathlib.Core.Option.{Option, none, some}
