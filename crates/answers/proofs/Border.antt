@@ -3,8 +3,8 @@
 use Rattle.bits.specs.Shown.{shown}
 use Rattle.board.specs.Board.{rays, attack}
 use Rattle.board.specs.Blocks.{blockOf, kindOf, squareOf}
-use Rattle.magic.specs.LookUp.{lookWith}
-use Rattle.hex.specs.Hex.{digitOf, readAfter, readWord}
+use Rattle.magic.specs.LookUp.{slotIn, lookWith}
+use Rattle.hex.specs.Hex.{figureOf, digits, digitOf, readAfter, readWord}
 use Rattle.lines.specs.Line.{queryAfter, queryOf, walkOf, answerTo, answerLine}
 use Rattle.lines.specs.Calls.{fitting, answered, nextOf, saysOf, after, written, taken, fedOf, ending}
 use Rattle.answers.specs.Tried.{Each}
@@ -13,5 +13,5 @@ use Rattle.bits.proofs.SameList.{sameList}
 use Rattle.answers.proofs.Tests.{tested, each}
 
 pub holds : Each table
-unfolding sameList tested shown rays attack blockOf kindOf squareOf lookWith digitOf readAfter readWord queryAfter queryOf walkOf answerTo answerLine fitting answered nextOf saysOf after written taken fedOf ending
+unfolding sameList tested shown rays attack blockOf kindOf squareOf slotIn lookWith figureOf digits digitOf readAfter readWord queryAfter queryOf walkOf answerTo answerLine fitting answered nextOf saysOf after written taken fedOf ending
 holds = each table tt

@@ -34,6 +34,12 @@ walks = 0x80402010080500 ∷ 0x500 ∷ 0x80500 ∷ 0x500 ∷ 0x10080500 ∷ 0x50
 abbrev indices : List ℕ
 indices = 0 ∷ 1 ∷ 2 ∷ 3 ∷ 4 ∷ 5 ∷ 6 ∷ 7 ∷ 8 ∷ 9 ∷ 10 ∷ 11 ∷ 12 ∷ 13 ∷ 14 ∷ 15 ∷ 16 ∷ 17 ∷ 18 ∷ 19 ∷ 20 ∷ 21 ∷ 22 ∷ 23 ∷ 24 ∷ 25 ∷ 26 ∷ 27 ∷ 28 ∷ 29 ∷ 30 ∷ 31 ∷ []
 
+abbrev sharing : ℕ
+sharing = 0x204951e85bfe00
+
+abbrev shared : List ℕ
+shared = 0 ∷ 16 ∷ 9 ∷ 25 ∷ 3 ∷ 19 ∷ 13 ∷ 29 ∷ 1 ∷ 17 ∷ 10 ∷ 26 ∷ 5 ∷ 21 ∷ 14 ∷ 30 ∷ 31 ∷ 16 ∷ 9 ∷ 25 ∷ 3 ∷ 19 ∷ 13 ∷ 29 ∷ 1 ∷ 17 ∷ 10 ∷ 26 ∷ 5 ∷ 21 ∷ 14 ∷ 30 ∷ []
+
 subsets-are : shown 32 (subset 1 1) ≡ subsets
 unfolding shown subset
 subsets-are = refl
@@ -45,6 +51,10 @@ walks-are = refl
 indices-are : shown 32 (λ i. magicIndex 1 1 multiplier (getD subsets i 0)) ≡ indices
 unfolding shown magicIndex shiftOf
 indices-are = refl
+
+shared-are : shown 32 (λ i. magicIndex 1 1 sharing (getD subsets i 0)) ≡ shared
+unfolding shown magicIndex shiftOf
+shared-are = refl
 
 -- what is listed is what the list has
 listed : (f : ℕ → ℕ) (l : List ℕ) → shown 32 f ≡ l → (i : ℕ) → i < 32 → f i ≡ getD l i 0
@@ -60,6 +70,9 @@ module _ (i : ℕ) (h : i < 32) where
   index-is : magicIndex 1 1 multiplier (subset 1 1 i) ≡ getD indices i 0
   index-is = ap (magicIndex 1 1 multiplier) subset-is ∙ listed (λ i. magicIndex 1 1 multiplier (getD subsets i 0)) indices indices-are i h
 
+  shared-is : magicIndex 1 1 sharing (subset 1 1 i) ≡ getD shared i 0
+  shared-is = ap (magicIndex 1 1 sharing) subset-is ∙ listed (λ i. magicIndex 1 1 sharing (getD subsets i 0)) shared shared-are i h
+
   none-is : magicIndex 1 1 0 (subset 1 1 i) ≡ 0
   unfolding magicIndex shiftOf
   none-is = ap (λ (n : ℕ). n % 2 ^ 64 / 2 ^ 59) (zero-mul (subset 1 1 i))
@@ -68,6 +81,10 @@ listed-agree : agree 32 (λ i. getD indices i 0) (λ i. getD walks i 0) ≡ true
 unfolding agree every destructive
 listed-agree = refl
 
+listed-share : agree 32 (λ i. getD shared i 0) (λ i. getD walks i 0) ≡ true
+unfolding agree every destructive
+listed-share = refl
+
 listed-collide : agree 32 (λ i. 0) (λ i. getD walks i 0) ≡ false
 unfolding agree every destructive
 listed-collide = refl
@@ -75,6 +92,10 @@ listed-collide = refl
 is-clean : clean real 1 multiplier ≡ true
 unfolding clean kindOf squareOf sizeOf
 is-clean = agree-cong 32 _ _ _ _ index-is walk-is ∙ listed-agree
+
+is-shared : clean real 1 sharing ≡ true
+unfolding clean kindOf squareOf sizeOf
+is-shared = agree-cong 32 _ _ _ _ shared-is walk-is ∙ listed-share
 
 collides : clean real 1 0 ≡ false
 unfolding clean kindOf squareOf sizeOf
@@ -101,5 +122,6 @@ found =
     record {
       searched = λ budget h a. searches 1 1 42 budget (lit< tt) (lit< tt) .finds a 0 .1 (first budget h) ∙ ap (λ (n : ℕ). gives (record { multiplier = n; count = 1 })) is-first;
       lent = lent-finds real (λ b. multiplier) 1 is-clean;
+      lent-shares = lent-finds real (λ b. sharing) 1 is-shared;
       lent-collides = lent-none real (λ b. 0) 1 .1 collides;
     }

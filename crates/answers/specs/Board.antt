@@ -1,8 +1,9 @@
 -- Answers of `tables`, `rays`, `magic_helpers`, `bmis`, `candidates` and `magic`.
 use Prim.Native.Nat.{ℕ, _-_, _^_}
-use mathlib.Core.List.{List, [], _∷_}
-use lib.ListN.{getD, replicate}
-use Rattle.refusal.specs.Paper.{Said, gives}
+use mathlib.Core.List.{List, [], _∷_, _++_}
+use lib.ListN.{length, getD, replicate}
+use Rattle.refusal.specs.Paper.{Said, gives, refuses}
+use Rattle.bits.specs.Set.{digit}
 use Rattle.tables.specs.Rays as Listed
 use Rattle.tables.specs.Starts.{starts}
 use Rattle.board.specs.Board.{rays, mask, attack, onBlock}
@@ -14,11 +15,11 @@ use Rattle.packing.specs.declared.Choice.{Choice}
 use Rattle.packing.specs.declared.Choice.the-variants.{Chosen, None}
 use Rattle.packing.specs.Pack.{bySearch}
 use Rattle.splitmix.specs.SplitMix.{candidate}
-use Rattle.blocks.specs.Real.{real}
+use Rattle.blocks.specs.Real.{skips, real}
 use Rattle.candidates.specs.OneBlock.{searchOf}
 use Rattle.gen_magic.specs.declared.Record.{Record}
-use Rattle.gen_magic.specs.Builds.{noRecord}
-use Rattle.magic.specs.LookUp.{lookUp}
+use Rattle.gen_magic.specs.Builds.{recordAt, noRecord}
+use Rattle.magic.specs.LookUp.{lookWith, lookUp}
 use Rattle.magic.specs.Audit.{auditSays}
 use Rattle.slider.specs.Flat.{verdictOf, foundOf, placeOf}
 use Rattle.answers.specs.Tried.{Tried, _is_not_, one, said}
@@ -42,6 +43,14 @@ verdict x = verdictOf x .number ∷ verdictOf x .block ∷ verdictOf x .subset �
 -- a record of rook or bishop A1 that reads slot 0
 abbrev pub first : ℕ → Record
 first shift = record { multiplier = 1; mask = 0; offset = 0; shift = shift }
+
+-- a record whose slot for blockers 0x82 is 1 + (2^51 * 2 >> 52), the third
+abbrev pub third : Record
+third = record { multiplier = 2 ^ 51; mask = 2; offset = 1; shift = 52 }
+
+-- bishop A1's record with multiplier 0, and no other
+abbrev pub records : List Record
+records = recordAt 0 0 0 ∷ replicate 127 noRecord
 
 abbrev pub table : List Tried
 table =
@@ -105,18 +114,36 @@ table =
     -- get_bishop_moves_bmi: 9 before 2, a table of one entry is read
     ∷ (said (inTable 1 64 1 (gives (Bmis.lookUp 1 64 0 (7 ∷ [])))) is (2 ∷ 0 ∷ []) not (9 ∷ 0 ∷ []))
     ∷ (said (inTable 1 0 1 (gives (Bmis.lookUp 1 0 0 (7 ∷ [])))) is (9 ∷ 0 ∷ []) not (0 ∷ 0 ∷ []))
+    -- the look-up's formula, for any entries: the entry as it is, the rook's block for a bishop
+    ∷ (one (Bmis.lookUp 0 0 0 (2 ∷ [])) is one 4 not one 2)
+    ∷ (one (Bmis.lookUp 1 0 0 (2 ∷ [])) is one 0 not one 0x40000)
+    -- a part: from the table's beginning, and no longer than its block
+    ∷ (partOf 1 0 (replicate 4096 0 ++ (7 ∷ [])) is one 7 not replicate 64 0)
+    ∷ (one (length (partOf 0 0 (replicate 4097 0))) is one 4096 not one 4097)
     -- bmi_part: a part for kind 2, a part of a table of one entry
     ∷ (given (inTable 2 0 1 (gives (partOf 2 0 (7 ∷ [])))) is [] not one 7)
     ∷ (given (inTable 0 0 1 (gives (partOf 0 0 (7 ∷ [])))) is [] not one 7)
     -- bmi_place, slider_pext_place: another size, a place in a table of another length
     ∷ (place (inTable 1 0 107648 (gives (extentOf 1 0))) is (0 ∷ 4096 ∷ 64 ∷ []) not (0 ∷ 4096 ∷ 4096 ∷ []))
+    ∷ (place (inTable 0 0 107648 (gives (extentOf 0 0))) is (0 ∷ 0 ∷ 4096 ∷ []) not (0 ∷ 0 ∷ 64 ∷ []))
     ∷ (place (inTable 0 0 0 (gives (extentOf 0 0))) is (9 ∷ 0 ∷ 0 ∷ []) not (0 ∷ 0 ∷ 4096 ∷ []))
+    -- the skip rule: five ones pass, six do not
+    ∷ (one (digit (skips 1 1 1)) is one 1 not one 0)
+    ∷ (one (digit (skips 1 0 1)) is one 0 not one 1)
+    ∷ (one (digit (skips 0 0 1)) is one 0 not one 1)
     -- search_at: the first candidate with no budget, a zero with no budget
     ∷ (choice (bySearch real (candidate 0) 0 0) is [] not (candidate 0 0 ∷ 1 ∷ []))
     ∷ (choice (bySearch real (candidate 0) 0 0) is [] not (0 ∷ 0 ∷ []))
     -- search, slider_search: block 0 for rook A1's, 5 for 10
     ∷ (search (onBlock 0 0 (searchOf (blockOf 0 0) 0 0)) is (5 ∷ 64 ∷ 0 ∷ 0 ∷ []) not (5 ∷ 0 ∷ 0 ∷ 0 ∷ []))
     ∷ (search (onBlock 0 0 (searchOf (blockOf 0 0) 0 16777217)) is (10 ∷ 0 ∷ 0 ∷ 0 ∷ []) not (5 ∷ 64 ∷ 0 ∷ 0 ∷ []))
+    ∷ (search (gives (record { multiplier = 7; count = 3 })) is (0 ∷ 0 ∷ 7 ∷ 3 ∷ []) not (0 ∷ 0 ∷ 3 ∷ 7 ∷ []))
+    -- look_with: the slot without the rays, the attack set whatever the slot holds
+    ∷ (said (lookWith 0x102 0 (first 52) (0x1FF ∷ [])) is (0 ∷ 0x102 ∷ []) not (0 ∷ 0x1FF ∷ []))
+    ∷ (said (lookWith 0x01010101010101FE 0 (first 52) (0x102 ∷ [])) is (0 ∷ 0x102 ∷ []) not (0 ∷ 0x01010101010101FE ∷ []))
+    -- the slot: offset left out, all blockers in the product, the product not shifted
+    ∷ (said (onBlock 0 0 (lookUp 0 0 0x82 third (2 ∷ 4 ∷ 8 ∷ []))) is (0 ∷ 8 ∷ []) not (0 ∷ 4 ∷ []))
+    ∷ (said (onBlock 0 0 (lookUp 0 0 0x82 third (2 ∷ 4 ∷ 8 ∷ []))) is (0 ∷ 8 ∷ []) not (7 ∷ 0 ∷ []))
     -- get_moves, get_rook_moves, slider_moves: the slot without the rays, 7 before 8, a slot past the end is empty
     ∷ (said (onBlock 0 0 (lookUp 0 0 0 (first 52) ((2 ^ 64 - 1) ∷ []))) is (0 ∷ 0x01010101010101FE ∷ []) not (0 ∷ 0xFFFFFFFFFFFFFFFF ∷ []))
     ∷ (said (onBlock 0 0 (lookUp 0 0 0 (first 51) [])) is (8 ∷ 0 ∷ []) not (7 ∷ 0 ∷ []))
@@ -124,7 +151,11 @@ table =
     -- get_bishop_moves: the rook's rays, a shift of 60
     ∷ (said (onBlock 1 0 (lookUp 1 0 0 (first 59) ((2 ^ 64 - 1) ∷ []))) is (0 ∷ 0x8040201008040200 ∷ []) not (0 ∷ 0x01010101010101FE ∷ []))
     ∷ (said (onBlock 1 0 (lookUp 1 0 0 (first 60) ((2 ^ 64 - 1) ∷ []))) is (8 ∷ 0 ∷ []) not (0 ∷ 0x8040201008040200 ∷ []))
-    -- audit, slider_audit: zeros are accepted, 7 before 8
+    -- audit, slider_audit: zeros are accepted, 7 before 8; block and subset swapped, a refused look-up is no 11; the reach is lost
     ∷ (verdict (auditSays (replicate 128 noRecord) []) is (8 ∷ 0 ∷ 0 ∷ 0 ∷ []) not (0 ∷ 0 ∷ 0 ∷ 4096 ∷ []))
     ∷ (verdict (auditSays (replicate 128 noRecord) []) is (8 ∷ 0 ∷ 0 ∷ 0 ∷ []) not (7 ∷ 0 ∷ 0 ∷ 0 ∷ []))
+    ∷ (verdict (auditSays records (0x8040201008040200 ∷ [])) is (11 ∷ 0 ∷ 1 ∷ 0 ∷ []) not (11 ∷ 1 ∷ 0 ∷ 0 ∷ []))
+    ∷ (verdict (auditSays records []) is (7 ∷ 0 ∷ 0 ∷ 0 ∷ []) not (11 ∷ 0 ∷ 0 ∷ 0 ∷ []))
+    ∷ (verdict (gives 5) is (0 ∷ 0 ∷ 0 ∷ 5 ∷ []) not (0 ∷ 0 ∷ 0 ∷ 0 ∷ []))
+    ∷ (verdict (refuses 11 (3 ∷ 9 ∷ [])) is (11 ∷ 3 ∷ 9 ∷ 0 ∷ []) not (11 ∷ 9 ∷ 3 ∷ 0 ∷ []))
     ∷ []

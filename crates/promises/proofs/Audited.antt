@@ -1,6 +1,6 @@
 -- What is promised of the audit, and of a build's numbers.
 -- Assumes nothing.
-use Prim.Native.Nat.{ℕ, _^_, _≤_, _<_, zero-le}
+use Prim.Native.Nat.{ℕ, _+_, _^_, _≤_, _<_, zero-le}
 use mathlib.Core.Path.{_≡_, refl, sym, ap, _∙_, subst}
 use mathlib.Core.Bool.{Bool, true, false, not}
 use mathlib.Core.List.{List}
@@ -11,6 +11,8 @@ use lib.ListN.{length, replicate, List·getD-eq-default}
 use Rattle.refusal.specs.Paper.{gives}
 use Rattle.bits.specs.Shown.{shown}
 use Rattle.bits.proofs.Shown.{getD-same, getD-shown, length-shown}
+use Rattle.board.specs.Blocks.{kindOf, squareOf, sizeOf}
+use Rattle.board.proofs.Blocks.{on-block}
 use Rattle.board.proofs.Attack.{walk-attack}
 use Rattle.splitmix.specs.SplitMix.{candidate}
 use Rattle.packing.specs.Pack.{State, Outcome, done, refused, seedBuild, lentBuild}
@@ -22,6 +24,7 @@ use Rattle.blocks.proofs.Board.{seed-used, lent-used, seed-offsets, lent-offset
 use Rattle.gen_magic.specs.declared.Record.{Record}
 use Rattle.gen_magic.specs.Builds.{slots, noRecord, Left, ended, keptIf, fromSeed, fromLent, recordIn, recordOf}
 use Rattle.gen_magic.proofs.Came.{seed-success, lent-success, seed-refused, lent-refused}
+use Rattle.magic.specs.Audit.{reachOf}
 use Rattle.magic.proofs.Accepts.{accepts-only, accepts}
 use Rattle.magic.proofs.Refuses as Refuses
 use Rattle.magic.proofs.Attacks.{look-up-attack, built-holds}
@@ -32,10 +35,14 @@ use Rattle.promises.specs.Audited.{Accepted, Audited, Limits}
 accepted : (left : Left) (len : ℕ) (s : State) → left ≡ ended len (done s) → Right real len s → Accepted left
 accepted left len s e h = subst Accepted (sym e) (accepts (shown 128 (recordOf s)) _ (built-holds len s h))
 
+reach-is : (records : List Record) → reachOf records ≡ recordIn records 127 .offset + sizeOf 0 63
+unfolding reachOf kindOf squareOf
+reach-is records = refl
+
 pub audited : Audited
 audited =
     record {
-      accepts-exactly = λ records table x. (accepts-only records table x, λ w. accepts records table (w .0) ∙ ap gives (sym (w .1)));
+      accepts-exactly = λ records table x. (λ e. let a = accepts-only records table x e in (a .0, a .1 ∙ reach-is records), λ w. accepts records table (w .0) ∙ ap gives (reach-is records ∙ sym (w .1)));
       accepts-seed = λ seed budget table marks e.
           let d = seed-success seed budget table marks e in
           accepted _ (length table) (d .state) (d .left) (seed-right real laws (candidate seed) budget (length table) (d .state) (d .is));
@@ -47,7 +54,7 @@ audited =
       refuses-11 = Refuses.refuses-11;
       refuses-only = Refuses.no-other;
       after-acceptance = λ records table x e kind sq blockers hk hs hb.
-          look-up-attack records table (accepts-only records table x e .0) kind sq blockers hk hs hb ∙ ap gives (sym (walk-attack kind sq hk hs blockers));
+          on-block kind sq _ hk hs ∙ look-up-attack records table (accepts-only records table x e .0) kind sq blockers hk hs hb ∙ ap gives (sym (walk-attack kind sq hk hs blockers));
     }
 
 -- ---- the numbers

@@ -70,4 +70,4 @@ taken-at-the-limit seed table marks e = one (eqb (length table) (length marks)) 
     one false o q = ten (λ z. omega arith) q
 
 pub refused-above : (seed : ℕ) (table marks : List ℕ) → fromSeed seed 16777217 table marks .says ≡ refuses 10 []
-refused-above seed table marks = ap (λ (l : Left). l .says) (demand-1 .budget-refused seed 16777217 table marks (lit< tt))
+refused-above seed table marks = demand-1 .budget-refused seed 16777217 table marks (lit< tt) .says

@@ -27,7 +27,7 @@ use Rattle.gen_magic.proofs.Came.{seed-is, lent-is}
 use Rattle.magic.specs.LookUp.{lookUp}
 use Rattle.magic.proofs.LookUps.{outside, look-8, look-7}
 use Rattle.magic.proofs.Audits.{inside}
-use Rattle.promises.specs.Demands.{Succeeds, Demand1}
+use Rattle.promises.specs.Demands.{Succeeds, Refused, Demand1}
 
 kind-refused : {A : Type 0} (kind sq : ℕ) (x : Said A) → 1 < kind → onBlock kind sq x ≡ refuses 1 []
 kind-refused kind sq x h = ap (λ (c : Bool). refuseIf c 1 (refuseIf (ltb 63 sq) 2 x)) (lt-ltb 1 kind h)
@@ -39,8 +39,20 @@ square-refused kind sq x h g = ap₂ (λ (c d : Bool). refuseIf c 1 (refuseIf d 
 refused-if : {A : Type 0} {c : Bool} (n : ℕ) (x : Said A) → c ≡ true → refuseIf c n x ≡ refuses n []
 refused-if n x e = ap (λ (c : Bool). refuseIf c n x) e
 
-shift-refused : (kind sq blockers : ℕ) (r : Record) (table : List ℕ) → (r .shift < 52) ⊎ (59 < r .shift) → lookUp kind sq blockers r table ≡ refuses 8 []
-shift-refused kind sq blockers r table h = sym (look-8 (rays kind sq) blockers r table (outside-is (r .shift) h))
+-- zeros beside a refusal, field by field
+zeros : {left : Left} {number : ℕ} {values table marks : List ℕ} → left ≡ empty number values table marks → Refused left number values table marks
+zeros e =
+    record {
+      says = ap (λ (l : Left). l .says) e;
+      records = ap (λ (l : Left). l .records) e;
+      counts = ap (λ (l : Left). l .counts) e;
+      used = ap (λ (l : Left). l .used) e;
+      table-left = ap (λ (l : Left). l .table) e;
+      marks-left = ap (λ (l : Left). l .marks) e;
+    }
+
+shift-refused : (kind sq blockers : ℕ) (r : Record) (table : List ℕ) → kind < 2 → sq < 64 → (r .shift < 52) ⊎ (59 < r .shift) → onBlock kind sq (lookUp kind sq blockers r table) ≡ refuses 8 []
+shift-refused kind sq blockers r table hk hs h = on-block kind sq _ hk hs ∙ sym (look-8 (rays kind sq) blockers r table (outside-is (r .shift) h))
   where
     outside-is : (n : ℕ) → (n < 52) ⊎ (59 < n) → outside n ≡ true
     outside-is n (inl l) = ap (λ (c : Bool). c || ltb 59 n) (lt-ltb n 52 l)
@@ -50,27 +62,27 @@ pext-refused : (old : List ℕ) → (length old ≡ 107648 → ⊥) → (Bmis.of
 pext-refused old f = let e = ne-eqb (length old) 107648 f in
     (ap (λ (c : Bool). refuseIf (not c) 9 (gives 107648)) e, ap (λ (c : Bool). Bmis.filledIf c old) e)
 
-budget-refused : (seed budget : ℕ) (table marks : List ℕ) → 16777216 < budget → fromSeed seed budget table marks ≡ empty 10 [] table marks
+budget-refused : (seed budget : ℕ) (table marks : List ℕ) → 16777216 < budget → Refused (fromSeed seed budget table marks) 10 [] table marks
 unfolding fromSeed
-budget-refused seed budget table marks h = kept 10 table marks _ _ (lt-ltb 16777216 budget h)
+budget-refused seed budget table marks h = zeros (kept 10 table marks _ _ (lt-ltb 16777216 budget h))
 
-lengths-refused : (seed budget : ℕ) (table marks : List ℕ) → budget ≤ 16777216 → (length table ≡ length marks → ⊥) → fromSeed seed budget table marks ≡ empty 3 [] table marks
+lengths-refused : (seed budget : ℕ) (table marks : List ℕ) → budget ≤ 16777216 → (length table ≡ length marks → ⊥) → Refused (fromSeed seed budget table marks) 3 [] table marks
 unfolding fromSeed
-lengths-refused seed budget table marks h f = passed 10 table marks _ _ (le-ltb 16777216 budget h) ∙ kept 3 table marks _ _ (ap not (ne-eqb (length table) (length marks) f))
+lengths-refused seed budget table marks h f = zeros (passed 10 table marks _ _ (le-ltb 16777216 budget h) ∙ kept 3 table marks _ _ (ap not (ne-eqb (length table) (length marks) f)))
 
-list-refused : (multipliers table marks : List ℕ) → (length multipliers ≡ 128 → ⊥) → fromLent multipliers table marks ≡ empty 9 [] table marks
+list-refused : (multipliers table marks : List ℕ) → (length multipliers ≡ 128 → ⊥) → Refused (fromLent multipliers table marks) 9 [] table marks
 unfolding fromLent
-list-refused multipliers table marks f = kept 9 table marks _ _ (ap not (ne-eqb (length multipliers) 128 f))
+list-refused multipliers table marks f = zeros (kept 9 table marks _ _ (ap not (ne-eqb (length multipliers) 128 f)))
 
-lent-lengths-refused : (multipliers table marks : List ℕ) → length multipliers ≡ 128 → (length table ≡ length marks → ⊥) → fromLent multipliers table marks ≡ empty 3 [] table marks
+lent-lengths-refused : (multipliers table marks : List ℕ) → length multipliers ≡ 128 → (length table ≡ length marks → ⊥) → Refused (fromLent multipliers table marks) 3 [] table marks
 unfolding fromLent
-lent-lengths-refused multipliers table marks h f = passed 9 table marks _ _ (ap not (eq-eqb (length multipliers) 128 h)) ∙ kept 3 table marks _ _ (ap not (ne-eqb (length table) (length marks) f))
+lent-lengths-refused multipliers table marks h f = zeros (passed 9 table marks _ _ (ap not (eq-eqb (length multipliers) 128 h)) ∙ kept 3 table marks _ _ (ap not (ne-eqb (length table) (length marks) f)))
 
 -- what an outcome leaves
 on-the-way : (left : Left) (len other : ℕ) (o : Outcome) → left ≡ ended len o → ((n b : ℕ) → o ≡ refused n b → ((n ≡ 4) ⊎ (n ≡ other)) × (b < 128))
-    → Succeeds left ⊎ ((number : ℕ) × (block : ℕ) × ((number ≡ 4) ⊎ (number ≡ other)) × (block < 128) × (left ≡ empty number (block ∷ []) (replicate len 0) (replicate len 0)))
+    → Succeeds left ⊎ ((number : ℕ) × (block : ℕ) × ((number ≡ 4) ⊎ (number ≡ other)) × (block < 128) × Refused left number (block ∷ []) (replicate len 0) (replicate len 0))
 on-the-way left len other (done s) e h = inl (ap (λ (l : Left). l .says) e)
-on-the-way left len other (refused n b) e h = inr (n, b, h n b refl .0, h n b refl .1, e)
+on-the-way left len other (refused n b) e h = inr (n, b, h n b refl .0, h n b refl .1, zeros e)
 
 block-low : (len why : ℕ) (choice : ℕ → Choice) (n b : ℕ) → run real len why choice 128 ≡ refused n b → b < 128
 block-low len why choice n b e = stopped real len why choice 128 n b e .0
@@ -89,7 +101,7 @@ demand-1 =
       pext-refused = pext-refused;
       pext-look-up-refused = λ kind sq entries x h g f. on-block kind sq _ h g ∙ refused-if 9 x (ap not (ne-eqb entries 107648 f));
       shift-refused = shift-refused;
-      index-refused = λ kind sq blockers r table h g l. sym (look-7 (rays kind sq) blockers r table (inside (r .shift) (h, g)) l);
+      index-refused = λ kind sq blockers r table hk hs h g l. on-block kind sq _ hk hs ∙ sym (look-7 (rays kind sq) blockers r table (inside (r .shift) (h, g)) l);
       budget-refused = budget-refused;
       lengths-refused = lengths-refused;
       list-refused = list-refused;

@@ -1,28 +1,53 @@
 -- What the one-block search says, exactly when.
 -- Assumes nothing.
-use Prim.Native.Nat.{ℕ, _≤_, _<_}
-use mathlib.Core.Path.{_≡_, refl, sym, ap, _∙_, subst}
-use mathlib.Core.Bool.{Bool}
+use Prim.Native.Nat.{ℕ, _*_, _%_, _^_, _≤_, _<_}
+use mathlib.Core.Path.{_≡_, refl, sym, ap, ap₂, _∙_, subst}
+use mathlib.Core.Bool.{Bool, true, false, not, _&&_, true≢false}
 use mathlib.Core.List.{[], _∷_}
-use mathlib.Core.Logic.{_⊎_, inl, inr}
+use mathlib.Core.Logic.{_⊎_, inl, inr, _↔_}
 use native.Mathlib.Omega.{arith}
 use native.Mathlib.Decide.{decLt}
-use borrow.Author.Tests.{lt-ltb, le-ltb}
-use Rattle.refusal.specs.Paper.{Said, gives, refuses, refuseIf}
-use Rattle.refusal.proofs.Said.{gives-same, gives-not, refuses-same}
-use Rattle.board.specs.Blocks.{blockOf}
+use borrow.Author.Tests.{lt-ltb, le-ltb, ltb-false}
+use lib.Dec.{ltb}
+use Rattle.refusal.specs.Paper.{gives, refuses, refuseIf}
+use Rattle.refusal.proofs.Said.{gives-same, gives-not}
+use Rattle.bits.specs.Set.{count}
+use Rattle.board.specs.Board.{mask}
+use Rattle.board.specs.Blocks.{blockOf, kindOf, squareOf}
 use Rattle.board.proofs.Blocks.{on-block}
 use Rattle.splitmix.specs.SplitMix.{candidate}
 use Rattle.packing.specs.declared.Taken.{Taken}
 use Rattle.packing.specs.declared.Choice.{Choice}
 use Rattle.packing.specs.declared.Choice.the-variants.{None, Chosen}
-use Rattle.packing.specs.Pack.{bySearch, firstPassing}
+use Rattle.packing.specs.Pack.{clean, passes, bySearch, firstPassing}
 use Rattle.packing.specs.Promised.{First, counted}
+use Rattle.packing.proofs.Agree.{agree-holds, agree-same}
 use Rattle.packing.proofs.Choices as Choices
-use Rattle.blocks.specs.Real.{real}
+use Rattle.blocks.specs.Real.{magicIndex, skips, real}
 use Rattle.candidates.specs.OneBlock.{chosenOr, searchOf}
 use Rattle.candidates.proofs.Said.{says-5}
-use Rattle.promises.specs.Search.{found, Searches}
+use Rattle.promises.specs.Search.{found, slotBy, walkBy, NoCollision, Candidates, Searches}
+
+-- ---- what passes
+
+clean-exactly : (b m : ℕ) → (clean real b m ≡ true) ↔ NoCollision b m
+unfolding clean magicIndex
+clean-exactly b m = (λ e. agree-same (real .size b) (slotBy b m) (walkBy b) e, λ h. agree-holds (real .size b) (slotBy b m) (walkBy b) h)
+
+passes-exactly : (b m : ℕ) → (passes real b m ≡ true) ↔ ((6 ≤ count (mask (kindOf b) (squareOf b) * m % 2 ^ 64)) × NoCollision b m)
+unfolding passes skips
+passes-exactly b m = (λ e. only (ltb ones 6) (clean real b m) refl refl e, λ w. ap₂ (λ (s c : Bool). not s && c) (le-ltb ones 6 (w .0)) (clean-exactly b m .1 (w .1)))
+  where
+    ones : ℕ
+    ones = count (mask (kindOf b) (squareOf b) * m % 2 ^ 64)
+
+    only : (s c : Bool) → ltb ones 6 ≡ s → clean real b m ≡ c → (not s && c) ≡ true → (6 ≤ ones) × NoCollision b m
+    only false true es ec q = (ltb-false ones 6 es, clean-exactly b m .0 ec)
+    only false false es ec q = absurd (true≢false (sym q))
+    only true c es ec q = absurd (true≢false (sym q))
+
+pub candidates : Candidates
+candidates = record { passes-exactly = passes-exactly; clean-exactly = clean-exactly }
 
 -- ---- a choice, by what is said of it
 

@@ -1,11 +1,12 @@
 -- 01, "Look-ups and audit" and "Packing": what is promised of the audit, and of a build's numbers.
-use Prim.Native.Nat.{ℕ, _^_, _≤_, _<_}
+use Prim.Native.Nat.{ℕ, _+_, _^_, _≤_, _<_}
 use mathlib.Core.Path.{_≡_}
 use mathlib.Core.List.{List, [], _∷_}
 use mathlib.Core.Logic.{_⊎_, _↔_}
 use lib.ListN.{length}
 use Rattle.refusal.specs.Paper.{gives, refuses}
-use Rattle.board.specs.Blocks.{blockOf}
+use Rattle.board.specs.Board.{onBlock}
+use Rattle.board.specs.Blocks.{blockOf, sizeOf}
 use Rattle.board.specs.Walk.{walk}
 use Rattle.gen_magic.specs.declared.Record.{Record}
 use Rattle.gen_magic.specs.Builds.{Left, fromSeed, fromLent, recordIn}
@@ -18,8 +19,8 @@ abbrev pub Accepted : Left → Type 0
 Accepted left = auditSays (left .records) (left .table) ≡ gives (reachOf (left .records))
 
 pub record Audited : Type 0 where
-  -- "It accepts exactly when all hold, .. and reports the reach"
-  pub accepts-exactly : (records : List Record) (table : List ℕ) (x : ℕ) → (auditSays records table ≡ gives x) ↔ (AllHold records table × (x ≡ reachOf records))
+  -- "It accepts exactly when all hold, .. and reports the reach: the end (offset + size) of block 127", rook H8
+  pub accepts-exactly : (records : List Record) (table : List ℕ) (x : ℕ) → (auditSays records table ≡ gives x) ↔ (AllHold records table × (x ≡ recordIn records 127 .offset + sizeOf 0 63))
   -- "Per block: mask and shift exact, else 8": the first block that has not its own
   pub refuses-8 : (records : List Record) (table : List ℕ) (b : ℕ) → (auditSays records table ≡ refuses 8 (b ∷ [])) ↔ ((b < 128) × HoldBefore b records table × (Own b (recordIn records b) → ⊥))
   -- "then subsets in order: in the table, else 7": the first subset that fails lies past the table
@@ -33,7 +34,7 @@ pub record Audited : Type 0 where
   pub accepts-lent : (multipliers table marks : List ℕ) → Succeeds (fromLent multipliers table marks) → Accepted (fromLent multipliers table marks)
   -- "After acceptance the look-up is the walk for every blocker set, whoever built the table."
   pub after-acceptance : (records : List Record) (table : List ℕ) (x : ℕ) → auditSays records table ≡ gives x
-      → (kind sq blockers : ℕ) → kind < 2 → sq < 64 → blockers < 2 ^ 64 → lookUp kind sq blockers (recordIn records (blockOf kind sq)) table ≡ gives (walk kind sq blockers)
+      → (kind sq blockers : ℕ) → kind < 2 → sq < 64 → blockers < 2 ^ 64 → onBlock kind sq (lookUp kind sq blockers (recordIn records (blockOf kind sq)) table) ≡ gives (walk kind sq blockers)
 
 pub record Limits : Type 0 where
   -- "the final end is the used length, at most 107,648"

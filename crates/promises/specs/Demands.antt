@@ -17,7 +17,7 @@ use Rattle.packing.specs.Pack.{State, place, done}
 use Rattle.packing.specs.Promised.{Placed, after, takenBy, EachFirst, lentAt, EachClean, largest}
 use Rattle.blocks.specs.Real.{real}
 use Rattle.gen_magic.specs.declared.Record.{Record}
-use Rattle.gen_magic.specs.Builds.{slots, recordAt, Left, empty, ended, fromSeed, fromLent, recordIn}
+use Rattle.gen_magic.specs.Builds.{slots, recordAt, Left, ended, fromSeed, fromLent, recordIn}
 use Rattle.magic.specs.LookUp.{slotIn, lookUp}
 
 -- a build succeeded
@@ -30,6 +30,15 @@ pub record Allowed (budget : ℕ) (table marks : List ℕ) : Type 0 where
   pub one-length : length table ≡ length marks
 
 -- ---- demand 1
+
+-- a refused build: its number and values; "records, counts all 0, used 0"; and what it leaves of its loans
+pub record Refused (left : Left) (number : ℕ) (values table marks : List ℕ) : Type 0 where
+  pub says : left .says ≡ refuses number values
+  pub records : left .records ≡ replicate 128 (record { multiplier = 0; mask = 0; offset = 0; shift = 0 })
+  pub counts : left .counts ≡ replicate 128 0
+  pub used : left .used ≡ 0
+  pub table-left : left .table ≡ table
+  pub marks-left : left .marks ≡ marks
 
 -- "Bad arguments are refused by number and change nothing. A build refused on the way leaves table, marks and records all
 -- zero." That any numbers and lengths are taken and every call ends is in what a proof of a function is: none has a
@@ -48,21 +57,21 @@ pub record Demand1 : Type 1 where
   pub pext-refused : (old : List ℕ) → (length old ≡ 107648 → ⊥) → (Bmis.ofLength {A = ℕ} (length old) (gives 107648) ≡ refuses 9 []) × (Bmis.filled old ≡ old)
   pub pext-look-up-refused : {A : Type 0} (kind sq entries : ℕ) (x : Said A) → kind < 2 → sq < 64 → (entries ≡ 107648 → ⊥) → Bmis.inTable kind sq entries x ≡ refuses 9 []
   -- 8, then 7, of a magic look-up
-  pub shift-refused : (kind sq blockers : ℕ) (r : Record) (table : List ℕ) → (r .shift < 52) ⊎ (59 < r .shift) → lookUp kind sq blockers r table ≡ refuses 8 []
-  pub index-refused : (kind sq blockers : ℕ) (r : Record) (table : List ℕ) → 52 ≤ r .shift → r .shift ≤ 59 → length table ≤ slotIn r blockers → lookUp kind sq blockers r table ≡ refuses 7 []
+  pub shift-refused : (kind sq blockers : ℕ) (r : Record) (table : List ℕ) → kind < 2 → sq < 64 → (r .shift < 52) ⊎ (59 < r .shift) → onBlock kind sq (lookUp kind sq blockers r table) ≡ refuses 8 []
+  pub index-refused : (kind sq blockers : ℕ) (r : Record) (table : List ℕ) → kind < 2 → sq < 64 → 52 ≤ r .shift → r .shift ≤ 59 → length table ≤ slotIn r blockers → onBlock kind sq (lookUp kind sq blockers r table) ≡ refuses 7 []
   -- 10, 9 and 3, of the builds
-  pub budget-refused : (seed budget : ℕ) (table marks : List ℕ) → 16777216 < budget → fromSeed seed budget table marks ≡ empty 10 [] table marks
-  pub lengths-refused : (seed budget : ℕ) (table marks : List ℕ) → budget ≤ 16777216 → (length table ≡ length marks → ⊥) → fromSeed seed budget table marks ≡ empty 3 [] table marks
-  pub list-refused : (multipliers table marks : List ℕ) → (length multipliers ≡ 128 → ⊥) → fromLent multipliers table marks ≡ empty 9 [] table marks
-  pub lent-lengths-refused : (multipliers table marks : List ℕ) → length multipliers ≡ 128 → (length table ≡ length marks → ⊥) → fromLent multipliers table marks ≡ empty 3 [] table marks
+  pub budget-refused : (seed budget : ℕ) (table marks : List ℕ) → 16777216 < budget → Refused (fromSeed seed budget table marks) 10 [] table marks
+  pub lengths-refused : (seed budget : ℕ) (table marks : List ℕ) → budget ≤ 16777216 → (length table ≡ length marks → ⊥) → Refused (fromSeed seed budget table marks) 3 [] table marks
+  pub list-refused : (multipliers table marks : List ℕ) → (length multipliers ≡ 128 → ⊥) → Refused (fromLent multipliers table marks) 9 [] table marks
+  pub lent-lengths-refused : (multipliers table marks : List ℕ) → length multipliers ≡ 128 → (length table ≡ length marks → ⊥) → Refused (fromLent multipliers table marks) 3 [] table marks
   pub on-the-way : (seed budget : ℕ) (table marks : List ℕ) → Allowed budget table marks
       → Succeeds (fromSeed seed budget table marks)
       ⊎ ((number : ℕ) × (block : ℕ) × ((number ≡ 4) ⊎ (number ≡ 5)) × (block < 128)
-      × (fromSeed seed budget table marks ≡ empty number (block ∷ []) (replicate (length table) 0) (replicate (length table) 0)))
+      × Refused (fromSeed seed budget table marks) number (block ∷ []) (replicate (length table) 0) (replicate (length table) 0))
   pub lent-on-the-way : (multipliers table marks : List ℕ) → length multipliers ≡ 128 → length table ≡ length marks
       → Succeeds (fromLent multipliers table marks)
       ⊎ ((number : ℕ) × (block : ℕ) × ((number ≡ 4) ⊎ (number ≡ 6)) × (block < 128)
-      × (fromLent multipliers table marks ≡ empty number (block ∷ []) (replicate (length table) 0) (replicate (length table) 0)))
+      × Refused (fromLent multipliers table marks) number (block ∷ []) (replicate (length table) 0) (replicate (length table) 0))
 
 -- ---- demand 2
 
