@@ -8,7 +8,8 @@
  *
  * Every function takes any numbers, returns, and keeps no pointer. A slice is a pointer and the number of elements behind it; the
  * elements must be there, aligned, and lent for the call: what is const is read, what is not is written and must not overlap with
- * anything else that is lent. Of length 0 the pointer is not read.
+ * anything else that is lent. Of length 0 the pointer is not read. Builds and searches hold arrays of 96 KiB on the stack: give a
+ * thread that calls them 256 KiB.
  *
  * `number` is 0, or the refusal's:
  *      1  kind above 1

@@ -120,24 +120,43 @@ fn structs_are_declared_as_exported() {
     assert_eq!(c_structs(&flat(&text("include/slider.h"))), exported, "include/slider.h");
 }
 
-/// A C compiler for x86-64, if there is one.
-fn compiler() -> Option<&'static str> {
+/// Lines without comments; derives may stand between `#[repr(C)]` and the struct.
+#[test]
+fn structs_have_the_layout_of_c() {
+    for (path, prefix) in [
+        ("../crates/slider/src/lib.rt", "pub struct Slider"),
+        ("../crates/gen_magic/src/lib.rt", "pub struct Record "),
+        ("src/ffi.rs", "pub struct Slider"),
+        ("src/magic.rs", "pub struct Record "),
+    ] {
+        let text = text(path);
+        let lines: Vec<&str> = text.lines().map(str::trim).filter(|line| !line.starts_with("//")).collect();
+        let structs = (0..lines.len()).filter(|i| lines[*i].starts_with(prefix));
+        let mut count = 0;
+        for i in structs {
+            let above = lines[..i].iter().rev().take_while(|line| line.starts_with('#'));
+            assert!(above.clone().any(|line| *line == "#[repr(C)]"), "{path}: {}", lines[i]);
+            count += 1;
+        }
+        assert!(count > 0, "{path}: no {prefix}");
+    }
+}
+
+/// A C compiler for x86-64: where Rust links for x86-64 there is one.
+fn compiler() -> &'static str {
     let makes_x86_64 = |name: &&str| {
         let machine = Command::new(name).arg("-dumpmachine").output();
         machine.map_or(false, |output| String::from_utf8_lossy(&output.stdout).starts_with("x86_64"))
     };
-    ["x86_64-linux-gnu-gcc", "cc", "gcc", "clang"].into_iter().find(makes_x86_64)
+    let found = ["x86_64-linux-gnu-gcc", "cc", "gcc", "clang"].into_iter().find(makes_x86_64);
+    found.expect("no C compiler for x86-64 here")
 }
 
 #[test]
 fn a_program_in_c() {
-    let compiler = match compiler() {
-        Some(name) => name,
-        None => return eprintln!("not run: no C compiler for x86-64 here"),
-    };
     let here = PathBuf::from(env!("CARGO_MANIFEST_DIR"));
     let program = PathBuf::from(env!("CARGO_TARGET_TMPDIR")).join("check");
-    let mut command = Command::new(compiler);
+    let mut command = Command::new(compiler());
     command.args(["-std=c11", "-O2", "-Wall", "-Wextra", "-Wpedantic", "-Werror", "-I"]).arg(here.join("include"));
     command.arg(here.join("tests/c/check.c")).arg(env!("SLIDER_ARCHIVE")).arg("-o").arg(&program);
     let output = command.output().unwrap();
