@@ -67,11 +67,8 @@ module _ (i : ℕ) (h : i < 32) where
   walk-is : attack 1 1 (subset 1 1 i) ≡ getD walks i 0
   walk-is = ap (attack 1 1) subset-is ∙ listed (λ i. attack 1 1 (getD subsets i 0)) walks walks-are i h
 
-  index-is : magicIndex 1 1 multiplier (subset 1 1 i) ≡ getD indices i 0
-  index-is = ap (magicIndex 1 1 multiplier) subset-is ∙ listed (λ i. magicIndex 1 1 multiplier (getD subsets i 0)) indices indices-are i h
-
-  shared-is : magicIndex 1 1 sharing (subset 1 1 i) ≡ getD shared i 0
-  shared-is = ap (magicIndex 1 1 sharing) subset-is ∙ listed (λ i. magicIndex 1 1 sharing (getD subsets i 0)) shared shared-are i h
+  index-is : (m : ℕ) (l : List ℕ) → shown 32 (λ i. magicIndex 1 1 m (getD subsets i 0)) ≡ l → magicIndex 1 1 m (subset 1 1 i) ≡ getD l i 0
+  index-is m l e = ap (magicIndex 1 1 m) subset-is ∙ listed (λ i. magicIndex 1 1 m (getD subsets i 0)) l e i h
 
   none-is : magicIndex 1 1 0 (subset 1 1 i) ≡ 0
   unfolding magicIndex shiftOf
@@ -89,17 +86,19 @@ listed-collide : agree 32 (λ i. 0) (λ i. getD walks i 0) ≡ false
 unfolding agree every destructive
 listed-collide = refl
 
-is-clean : clean real 1 multiplier ≡ true
+-- a multiplier is as clean as its listed slots are
+clean-by : (m : ℕ) (slot : ℕ → ℕ) → ((i : ℕ) → i < 32 → magicIndex 1 1 m (subset 1 1 i) ≡ slot i) → clean real 1 m ≡ agree 32 slot (λ i. getD walks i 0)
 unfolding clean kindOf squareOf sizeOf
-is-clean = agree-cong 32 _ _ _ _ index-is walk-is ∙ listed-agree
+clean-by m slot h = agree-cong 32 _ _ _ _ h walk-is
+
+is-clean : clean real 1 multiplier ≡ true
+is-clean = clean-by multiplier (λ i. getD indices i 0) (λ i h. index-is i h multiplier indices indices-are) ∙ listed-agree
 
 is-shared : clean real 1 sharing ≡ true
-unfolding clean kindOf squareOf sizeOf
-is-shared = agree-cong 32 _ _ _ _ shared-is walk-is ∙ listed-share
+is-shared = clean-by sharing (λ i. getD shared i 0) (λ i h. index-is i h sharing shared shared-are) ∙ listed-share
 
 collides : clean real 1 0 ≡ false
-unfolding clean kindOf squareOf sizeOf
-collides = agree-cong 32 _ _ _ _ none-is walk-is ∙ listed-collide
+collides = clean-by 0 (λ i. 0) none-is ∙ listed-collide
 
 is-first : candidate 42 0 ≡ multiplier
 unfolding candidate candidateOf stateAt after output mixed advanced

@@ -479,7 +479,7 @@ fn block_at(kind: u8, sq: u8) -> usize
     rook * 64 + square
 }
 
-// The rays of all blocks, listed once for a batch: a call for each query would cost more than the look-up.
+// The rays of all blocks, listed once for a batch, in place of a call for each query.
 fn all_rays() -> [u64; 128]
     ensures { λ r. ⌜ r ≡ shown 128 (λ (b : ℕ). rays (kindOf b) (squareOf b)) ⌝ }
 {
