@@ -5,3 +5,5 @@
 // on filled and built tables. Whole fills and builds are too long to compute: must-fail edits and runs try them.
 // Ports: nothing.
 // Adds: all of it.
+#![tactic(auto)]
+

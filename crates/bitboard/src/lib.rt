@@ -6,6 +6,8 @@
 // `set`, `from_square`, `to_square`, `popcnt`, `to_size`, `next`.
 // Adds: refusal 2 for a square above 63, a rank or file above 7 and the least square of the empty set; 0 for a shift by
 // 64 or more.
+#![tactic(auto)]
+
 ghost use Rattle.std.specs.Prelude.{◌≡◌, ◌*◌, ◌/◌, ◌%◌, ◌^◌};
 ghost use Rattle.std.specs.Int.Count.{ones};
 ghost use Rattle.refusal.specs.Paper.{said};

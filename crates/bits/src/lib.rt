@@ -5,6 +5,8 @@
 // sets that every crate above cites.
 // Ports: `wrapping_mul` as src/bitboard.rs uses it (lines 198 to 233), `_pext_u64` of src/gen_tables/bmis.rs (line 1).
 // Adds: the shift past 63, PDEP's loop, all laws.
+#![tactic(auto)]
+
 ghost use Rattle.std.specs.Prelude.{◌≡◌, ◌*◌, ◌/◌, ◌%◌, ◌^◌};
 ghost use Rattle.bits.specs.Intel.{pext, pdep};
 

@@ -4,3 +4,5 @@
 // what 01 says of the board's builds in numbers.
 // Ports: the arithmetic of generate_magic (src/gen_tables/magic.rs, lines 47 to 125).
 // Adds: nothing of its own.
+#![tactic(auto)]
+

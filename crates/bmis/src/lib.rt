@@ -5,6 +5,8 @@
 // Ports: src/gen_tables/bmis.rs (lines 31 to 74) and the two *_bmi look-ups of src/magic.rs (lines 38 to 52 and 68 to 82).
 // The static tables became a lent slice of 107,648 entries; `_pext_u64` and `_pdep_u64` are loops (crate `bits`).
 // Adds: refusals 1, 2 and 9; a look-up in any entries; the part and its place.
+#![tactic(auto)]
+
 ghost use Rattle.std.specs.Prelude.{◌≡◌, get_or, length};
 ghost use Rattle.refusal.specs.Paper.{said, gives};
 ghost use Rattle.bits.specs.Intel.{pext, pdep};

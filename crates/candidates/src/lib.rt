@@ -4,6 +4,8 @@
 // Ports: src/gen_tables/magic.rs (lines 83 to 107), the loop of generate_magic. The trial's `vec!` became a 4,096-slot array,
 // wiped slot by slot after each candidate; `while !done` became a counted search.
 // Adds: the fixed generator, the attempt budget, the test of a lent multiplier, refusals.
+#![tactic(auto)]
+
 ghost use Rattle.std.specs.Prelude.{◌≡◌, ℕ, ◌*◌, ◌/◌, ◌%◌, ◌^◌, ◌≤◌, ◌<◌, cond, ◌||◌, eqb, get_or, set, length};
 ghost use Rattle.candidates.specs.Trial.{Ready, Work, Empty, Rest, slot_at, value_at, passing};
 ghost use Rattle.bits.specs.Set.{least};

@@ -5,6 +5,8 @@
 // Ports: src/gen_tables/magic.rs (lines 47 to 135): generate_magic, which became `settle` (place and multiplier) and
 // `write`, and gen_all_magic. The static tables became lent slices, the random draws a source of choices.
 // Adds: the attempt budget, the room, the build from lent multipliers, the outcome with its refusal.
+#![tactic(auto)]
+
 ghost use Rattle.std.specs.Prelude.{◌≡◌, ℕ, ◌+◌, ◌^◌, ◌≤◌, ◌<◌, max, get_or, length, replicate};
 ghost use Rattle.packing.specs.Pack.{free, first_free};
 ghost use Rattle.blocks.specs.Real.{real};

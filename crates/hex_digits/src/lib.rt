@@ -3,6 +3,8 @@
 // Holds: `read`, which takes exactly 16 such digits, and `write`, which puts 16 of them at a buffer's start.
 // Ports: nothing.
 // Adds: all of it, for the lines that the query program reads and writes.
+#![tactic(auto)]
+
 ghost use Rattle.std.specs.Prelude.{◌≡◌, ◌<◌};
 ghost use Rattle.hex_digits.specs.Hex.{digit_of, read_word, figure_of, write_word};
 

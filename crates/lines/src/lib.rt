@@ -6,6 +6,8 @@
 // written is what its lines answer.
 // Ports: nothing.
 // Adds: all of it.
+#![tactic(auto)]
+
 ghost use Rattle.std.specs.Prelude.{◌≡◌, ◌≤◌, min, length, take};
 ghost use Rattle.hex_digits.specs.declared.Value.TheVariants.{Is};
 ghost use Rattle.lines.specs.Line.{query_after, query_of, walk_of, mark, answer_to};

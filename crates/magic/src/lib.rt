@@ -5,6 +5,8 @@
 // Ports: src/magic.rs (lines 24 to 36 and 54 to 66): get_rook_moves and get_bishop_moves. The static tables became
 // arguments, get_unchecked a test.
 // Adds: refusals 1, 2, 8 and 7; the audit.
+#![tactic(auto)]
+
 ghost use Rattle.std.specs.Prelude.{◌≡◌, ℕ, ◌≤◌};
 ghost use Rattle.refusal.specs.Paper.{said};
 ghost use Rattle.board.specs.Board.{on_block};

@@ -6,6 +6,8 @@
 // and a match, the vectors of questions and answers the functions `subset` and `walk` of a number; `rightshift` is from
 // src/gen_tables/magic.rs (line 80).
 // Adds: refusals 1 and 2. `random_bitboard` is the crate `splitmix`'s.
+#![tactic(auto)]
+
 ghost use Rattle.std.specs.Prelude.{◌≡◌, ◌≤◌, ◌<◌};
 ghost use Rattle.refusal.specs.Paper.{said, gives};
 ghost use Rattle.bits.specs.Set.{set_of};

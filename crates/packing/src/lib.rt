@@ -5,6 +5,7 @@
 // and demand 2's "exactly when", for a success and for each refusal.
 // Ports: the meaning of src/gen_tables/magic.rs (lines 47 to 135): `generate_magic` and `gen_all_magic`.
 // Adds: the attempt budget, the room, the build from lent multipliers, all laws.
+#![tactic(auto)]
 
 // What is taken for a block: its multiplier and the attempt count.
 #[derive(Drop)]

@@ -4,3 +4,5 @@
 // 01's examples under a single statement.
 // Ports: nothing.
 // Adds: all of it.
+#![tactic(auto)]
+

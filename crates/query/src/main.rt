@@ -4,6 +4,8 @@
 // chunk and the buffer for its answers take 49,196 bytes.
 // Ports: nothing.
 // Adds: all of it.
+#![tactic(auto)]
+
 ghost use Rattle.std.specs.Prelude.{◌≡◌, length};
 ghost use Rattle.lines.specs.Run.{chunk_size, room_size};
 

@@ -4,6 +4,8 @@
 // Ports: src/gen_tables/rays.rs (lines 12 to 52). The loops over the board became a list (crate `tables`) that is proved
 // against the definition; the two tables RAYS[1] and RAYS[0] became blocks 0 to 63 and 64 to 127.
 // Adds: refusals 1 and 2.
+#![tactic(auto)]
+
 ghost use Rattle.std.specs.Prelude.{◌≡◌};
 ghost use Rattle.refusal.specs.Paper.{said, gives};
 ghost use Rattle.board.specs.Board.{on_block, rays};

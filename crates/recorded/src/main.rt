@@ -6,6 +6,8 @@
 // were written by `rust/compare/run CHESS_SRC record crates/recorded` (rust/compare/README.md), which calls nothing of ours.
 // Ports: nothing.
 // Adds: all of it.
+#![tactic(auto)]
+
 use libc::{STDIN_FILENO, STDOUT_FILENO};
 use lines::Query;
 use refusal::Answer;

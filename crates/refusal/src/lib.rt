@@ -5,6 +5,8 @@
 // speak through that definition.
 // Ports: the role of src/error.rs (35 lines), which has no numbers, and of the crate's panics.
 // Adds: all of it.
+#![tactic(auto)]
+
 ghost use Rattle.std.specs.Prelude.{◌≡◌};
 ghost use Rattle.refusal.specs.Paper.{number_of};
 

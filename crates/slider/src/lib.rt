@@ -4,6 +4,8 @@
 // rays, masks, sizes, shifts, subsets, square names and steps. A refusal is its number in 01's table, 0 stands for none.
 // Ports: nothing of its own.
 // Adds: flat structs in place of the enums, which do not cross the border.
+#![tactic(auto)]
+
 ghost use Rattle.std.specs.Prelude.{◌≡◌, ℕ, ◌≤◌, ◌<◌, min, length};
 ghost use Rattle.refusal.specs.Paper.{said, gives};
 ghost use Rattle.bits.specs.Shown.{shown};

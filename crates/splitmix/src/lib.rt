@@ -3,6 +3,8 @@
 // Holds: the generator, a draw by value, and the draw that moves a lent generator in place.
 // Ports: `random_bitboard` of src/gen_tables/magic_helpers.rs (lines 54 to 56), with SmallRng replaced.
 // Adds: the fixed generator (Steele, Lea and Flood; Vigna's reference code).
+#![tactic(auto)]
+
 ghost use Rattle.std.specs.Prelude.{◌≡◌};
 ghost use Rattle.splitmix.specs.SplitMix.{advanced, mixed, candidate_of, moved, drawn};
 

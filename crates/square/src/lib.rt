@@ -5,6 +5,8 @@
 // Ports: src/square.rs (lines 70 to 184 and 969 to 1005); `Option<Square>` became the enum `Step`, `Result` an `Answer`,
 // `Display` the function `to_name`.
 // Adds: refusal 2 for a square above 63, a rank or file above 7 and a name that can't be read.
+#![tactic(auto)]
+
 ghost use Rattle.std.specs.Prelude.{◌≡◌};
 ghost use Rattle.refusal.specs.Paper.{said};
 ghost use Rattle.square.specs.Square.{make_square, rank_said, file_said, up_said, down_said, left_said, right_said, stepped, read_name, named, name_said};

@@ -5,6 +5,8 @@
 // Ports: the tables RAYS of src/gen_tables/rays.rs (line 10) and the offsets of src/gen_tables/bmis.rs (line 40), worked out
 // beforehand.
 // Adds: the lists themselves, which the original works out when it is built.
+#![tactic(auto)]
+
 ghost use Rattle.std.specs.Prelude.{◌≡◌, get_or};
 ghost use Rattle.tables.specs.Rays.{rays};
 ghost use Rattle.tables.specs.Starts.{starts};

@@ -6,6 +6,8 @@
 // PDEP, the product and the counts from the processor's instructions, and the figures' rows and the names from a typed list.
 // Ports: nothing.
 // Adds: all of it.
+#![tactic(auto)]
+
 use bitboard::Found;
 use libc::STDOUT_FILENO;
 use refusal::{Answer, Refusal};
