@@ -16,7 +16,7 @@ ghost use Rattle.bitboard.specs.Bitboard.{in_both, in_either, in_one, in_none, s
 use refusal::{Answer, Refusal};
 
 // What the iterator's step finds: the least square and the set without it.
-#[derive(Drop)]
+#[derive(Clone, Copy)]
 pub enum Found {
     At { square: u8, rest: u64 },
     End,

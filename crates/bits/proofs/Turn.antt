@@ -3,13 +3,14 @@
 use Rattle.std.proofs.Common.{◌≡◌, ℕ, zero, suc, ◌+◌, ◌*◌, ◌/◌, ◌%◌, ◌^◌, ◌<◌, min, sym, ap, ◌∙◌, ap₂, zero-add, add-one, arith, shl_exact}
 use native.Mathlib.Nat.{zero-min}
 use lib.Bits.{bit_and, bit_or, and_mask, or_shifted_r}
+use Rattle.std.proofs.lemmas.Nat.{and_comm}
 use Rattle.bits.specs.Set.{bit, count_below}
 use Rattle.bits.proofs.Digit.{bit_lt, over}
 use Rattle.bits.proofs.Forms.{taken_lt}
 
 digit_and : (b y : ℕ) → b < 2 → bit_and b y ≡ min b (y % 2)
 digit_and zero y h = sym (zero-min (y % 2))
-digit_and (suc zero) y h = zero-add (min 1 (y % 2))
+digit_and (suc zero) y h = and_comm 1 y ∙ and_mask y 1 ∙ omega arith
 digit_and (suc (suc b)) y h = over h
 
 -- `dest | ((((mask >> m) & 1) & y) << at)`, with dest below 2 ^ at

@@ -18,7 +18,7 @@ ghost use Rattle.bmis.specs.Bmis.{block_at, offset_of, entry, entries_to, of_len
 use refusal::{Answer, Refusal};
 
 // Where a square's block lies in the table.
-#[derive(Drop)]
+#[derive(Clone, Copy)]
 pub enum Place {
     At { offset: usize, size: usize },
     Refused(Refusal),

@@ -223,7 +223,7 @@ pub fn lent_at(block: usize, multiplier: u64) -> Choice
 // ---- the search of one block
 
 // What the search of one block found.
-#[derive(Drop)]
+#[derive(Clone, Copy)]
 pub enum Outcome {
     Found(Taken),
     Refused(Refusal),

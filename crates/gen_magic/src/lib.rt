@@ -21,7 +21,7 @@ use refusal::Refusal;
 
 // What a look-up needs of a block.
 #[repr(C)]
-#[derive(Drop)]
+#[derive(Clone, Copy)]
 pub struct Record {
     pub multiplier: u64,
     pub mask: u64,
@@ -30,7 +30,7 @@ pub struct Record {
 }
 
 // How a build ended; a refusal carries its block.
-#[derive(Drop)]
+#[derive(Clone, Copy)]
 pub enum Outcome {
     Built,
     Refused(Refusal),
@@ -45,7 +45,7 @@ pub struct Build {
 }
 
 // Where the multipliers of a build come from.
-#[derive(Drop)]
+#[derive(Clone, Copy)]
 pub enum Source {
     Seed { seed: u64, budget: u64 },
     Lent,

@@ -9,7 +9,7 @@ ghost use Rattle.std.specs.Prelude.{◌≡◌, ◌<◌};
 ghost use Rattle.hex_digits.specs.Hex.{digit_of, read_word, figure_of, write_word};
 
 // What is read: a number, or no number.
-#[derive(Drop)]
+#[derive(Clone, Copy)]
 pub enum Value {
     Is(u64),
     Not,

@@ -23,7 +23,7 @@ pub const CHUNK: usize = 16384;
 pub const ROOM: usize = 32812;
 
 // What a line asks for.
-#[derive(Drop)]
+#[derive(Clone, Copy)]
 pub enum Query {
     Walk { kind: u8, square: u8, blockers: u64 },
     Unreadable,

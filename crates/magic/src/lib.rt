@@ -73,7 +73,7 @@ pub fn get_bishop_moves(sq: u8, blockers: u64, magic: Record, table: &[u64]) -> 
 // ---- the audit
 
 // What a part of the audit found.
-#[derive(Drop)]
+#[derive(Clone, Copy)]
 pub enum Check {
     Holds,
     Fails(Refusal),

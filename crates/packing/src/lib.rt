@@ -8,14 +8,14 @@
 #![tactic(auto)]
 
 // What is taken for a block: its multiplier and the attempt count.
-#[derive(Drop)]
+#[derive(Clone, Copy)]
 pub struct Taken {
     pub multiplier: u64,
     pub count: u64,
 }
 
 // What a block's choice came to.
-#[derive(Drop)]
+#[derive(Clone, Copy)]
 pub enum Choice {
     None,
     Chosen(Taken),

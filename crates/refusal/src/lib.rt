@@ -11,7 +11,7 @@ ghost use Rattle.std.specs.Prelude.{◌≡◌};
 ghost use Rattle.refusal.specs.Paper.{number_of};
 
 // A case for each row of the table. In rows 7 and 8 the audit carries more than a look-up, so each has two cases.
-#[derive(Drop)]
+#[derive(Clone, Copy)]
 pub enum Refusal {
     // 1: kind above 1
     Kind,
@@ -42,7 +42,7 @@ pub enum Refusal {
 }
 
 // A number of up to 64 bits (a set, a square, a size), or the refusal.
-#[derive(Drop)]
+#[derive(Clone, Copy)]
 pub enum Answer {
     Gives(u64),
     Refuses(Refusal),

@@ -29,7 +29,7 @@ use square::{Name, Step};
 
 // number: 0, or the refusal's; value: the answer, 0 where refused.
 #[repr(C)]
-#[derive(Drop)]
+#[derive(Clone, Copy)]
 pub struct SliderAnswer {
     pub number: u64,
     pub value: u64,
@@ -37,7 +37,7 @@ pub struct SliderAnswer {
 
 // Block and subset are the refusal's, 0 where it has none; reach is 0 where refused.
 #[repr(C)]
-#[derive(Drop)]
+#[derive(Clone, Copy)]
 pub struct SliderVerdict {
     pub number: u64,
     pub block: u64,
@@ -46,7 +46,7 @@ pub struct SliderVerdict {
 }
 
 #[repr(C)]
-#[derive(Drop)]
+#[derive(Clone, Copy)]
 pub struct SliderFound {
     pub number: u64,
     pub block: u64,
@@ -72,7 +72,7 @@ pub struct SliderRecords {
 }
 
 #[repr(C)]
-#[derive(Drop)]
+#[derive(Clone, Copy)]
 pub struct SliderPlace {
     pub number: u64,
     pub offset: u64,
@@ -80,7 +80,7 @@ pub struct SliderPlace {
 }
 
 #[repr(C)]
-#[derive(Drop)]
+#[derive(Clone, Copy)]
 pub struct SliderName {
     pub number: u64,
     pub letter: u8,
@@ -89,7 +89,7 @@ pub struct SliderName {
 
 // off: 1 where the step leads off the board.
 #[repr(C)]
-#[derive(Drop)]
+#[derive(Clone, Copy)]
 pub struct SliderStep {
     pub number: u64,
     pub off: u64,

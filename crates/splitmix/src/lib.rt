@@ -9,13 +9,13 @@ ghost use Rattle.std.specs.Prelude.{◌≡◌};
 ghost use Rattle.splitmix.specs.SplitMix.{advanced, mixed, candidate_of, moved, drawn};
 
 // A generator is its state; any 64 bits are one.
-#[derive(Drop)]
+#[derive(Clone, Copy)]
 pub struct Generator {
     pub state: u64,
 }
 
 // A candidate, and the generator moved past it.
-#[derive(Drop)]
+#[derive(Clone, Copy)]
 pub struct Drawn {
     pub candidate: u64,
     pub next: Generator,

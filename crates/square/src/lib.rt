@@ -14,7 +14,7 @@ ghost use Rattle.square.specs.Square.{make_square, rank_said, file_said, up_said
 use refusal::{Answer, Refusal};
 
 // Where a step leads.
-#[derive(Drop)]
+#[derive(Clone, Copy)]
 pub enum Step {
     To(u8),
     Off,
@@ -22,7 +22,7 @@ pub enum Step {
 }
 
 // A square's name: its letter and its digit.
-#[derive(Drop)]
+#[derive(Clone, Copy)]
 pub enum Name {
     Bytes(u8, u8),
     Refused(Refusal),

@@ -1,0 +1,18 @@
+-- `hex_digits::write` meets its contract: with k digits left to write, those of the rest stand before the ones that were written.
+use Prim.Native.Nat.{ℕ, ◌-◌, ◌/◌, ◌≤◌}
+use mathlib.Core.Path.{◌≡◌, sym, ap, ◌∙◌}
+use mathlib.Core.List.{◌++◌}
+use native.Mathlib.Omega.{arith}
+use lib.ListN.{length, drop, set, length-set}
+use borrow.Author.Rules.{rules}
+use borrow.Author.Tests.{le-leb, lt-leb}
+use Rattle.hex_digits.specs.Hex.{digits, write_word}
+use Rattle.hex_digits.proofs.Laws.{write_next}
+use Rattle.hex_digits.proofs.write.Given as goal
+
+abbrev pub invariant-loop-k : goal.invariant-loop-k
+invariant-loop-k l =
+    (l.k ≤ 16) × (length l.out ≡ length l.initial.out) × (digits l.k l.rest ++ drop l.k l.out ≡ digits 16 l.n ++ drop 16 l.initial.out)
+
+abbrev pub decreases-loop-k : goal.decreases-loop-k
+decreases-loop-k l = l.k

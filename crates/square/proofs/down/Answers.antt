@@ -1,0 +1,19 @@
+-- `square::down` meets its contract, by the tests that led to each answer.
+use mathlib.Core.Path.{ap}
+use Prim.Native.Nat.{ℕ}
+use mathlib.Core.Option.{some}
+use native.Mathlib.Omega.{arith}
+use borrow.Author.Rules.{rules}
+use borrow.Author.Tests.{lt-ltb, le-ltb, eq-eqb, ne_eqb}
+use Rattle.refusal.specs.Paper.{gives}
+use Rattle.square.proofs.down.Goals as goal
+
+pub returns-then-sq-gt63 : goal.returns-then-sq-gt63
+returns-then-sq-gt63 c = simp (lt-ltb _ _ c.if-sq-gt63.true)
+
+pub returns-then-sq-eq0 : goal.returns-then-sq-eq0
+returns-then-sq-eq0 c = simp (le-ltb _ _ c.if-sq-gt63.false, eq-eqb _ _ c.if-sq-eq0.true)
+
+pub returns : goal.returns
+returns c =
+    simp (le-ltb _ _ c.if-sq-gt63.false, ne_eqb _ _ c.if-sq-eq0.false) (ap (λ (t : ℕ). gives (some t)) (omega arith))

@@ -1,0 +1,9 @@
+-- `tables::rays_unlisted` meets its contract: past the list there is nothing.
+use mathlib.Core.Path.{sym}
+use borrow.Author.Rules.{rules}
+use lib.ListN.{get_or-eq_default}
+use Rattle.tables.specs.Rays.{rays}
+use Rattle.tables.proofs.rays_unlisted.Goals as goal
+
+pub returns-else-block-lt128 : goal.returns-else-block-lt128
+returns-else-block-lt128 c = sym (get_or-eq_default rays 0 c.if-block-lt128.false)
