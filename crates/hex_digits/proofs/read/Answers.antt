@@ -11,21 +11,12 @@ use Rattle.hex_digits.specs.Hex.{digit_of, read_after, read_word}
 use Rattle.hex_digits.proofs.Laws.{digit_lt, read_next, read_none, more_lt, more_fits}
 use Rattle.hex_digits.proofs.read.Goals as goal
 
--- ---- in a turn whose byte is a digit
+-- in a turn whose byte is a digit
+value : (c : goal.In-Is) → digit_of (get_or c.args.bytes.now c.loop-i.i 0) ≡ Is c.in-Is.d
+value c = sym c.in-Is.ensures
 
-abbrev turn : goal.In-Is-2 → goal.In-loop-i
-turn c = c
-
-abbrev start : goal.In-Is-2 → goal.Start
-start c = (turn c)
-
-value : (c : goal.In-Is-2) → digit_of (get_or (start c).args.bytes.now (turn c).loop-i.i 0) ≡ Is c.in-Is.d
-value c = sym c.digit.ensures ∙ c.in-Is.is
-
-low : (c : goal.In-Is-2) → c.in-Is.d < 16
-low c = digit_lt (get_or (start c).args.bytes.now (turn c).loop-i.i 0) c.in-Is.d (value c)
-
--- ---- the needs
+low : (c : goal.In-Is) → c.in-Is.d < 16
+low c = digit_lt (get_or c.args.bytes.now c.loop-i.i 0) c.in-Is.d (value c)
 
 pub returns-then-bytes-ne16 : goal.returns-then-bytes-ne16
 unfolding read_word
@@ -35,29 +26,28 @@ pub returns-in_default : goal.returns-in_default
 unfolding read_word
 returns-in_default c =
     let l = c.loop-i in
-    let start = c in
     sym
     (simp (eq-eqb _ _ c.if-bytes-ne16.false)
-    (l.invariant.2 ∙ read_none l.number l.i start.args.bytes.now (omega arith)
+    (l.invariant.2 ∙ read_none l.number l.i c.args.bytes.now (omega arith)
     (sym c.digit.ensures ∙ c.in_default.is)))
 
 pub overflow_mul-number : goal.overflow_mul-number
 overflow_mul-number c =
-    let l = (turn c).loop-i in
+    let l = c.loop-i in
     omega (arith, more_fits l.number 0 l.i l.invariant.1 (omega arith) (omega arith))
 
 pub overflow_add-number : goal.overflow_add-number
 overflow_add-number c =
-    let l = (turn c).loop-i in
+    let l = c.loop-i in
     record { fits = more_fits l.number c.in-Is.d l.i l.invariant.1 (low c) (omega arith) }
 
 pub loop-i-preserved : goal.loop-i-preserved
 loop-i-preserved c =
-    let l = (turn c).loop-i in
+    let l = c.loop-i in
     let d = c.in-Is.d in (
       omega arith,
       rw add-one (more_lt l.number d l.i l.invariant.1 (low c)),
-      l.invariant.2 ∙ read_next l.number d l.i (start c).args.bytes.now (omega arith) (value c),
+      l.invariant.2 ∙ read_next l.number d l.i c.args.bytes.now (omega arith) (value c),
     )
 
 pub returns : goal.returns

@@ -2,15 +2,11 @@
 use lib.Bits.{bit_and, and_lt}
 use Rattle.bits.proofs.Sets.{has_and, is_set_of}
 use Rattle.bitboard.specs.Bitboard.{in_both}
-use Rattle.bitboard.proofs.bitand.Statement.{statement}
-use Rattle.bitboard.proofs.bitand.Tie as tie
+use Rattle.bitboard.proofs.bitand.Goals as goal
 
-returns : tie.Need-returns
+pub returns : goal.returns
 unfolding in_both
 returns c =
     let a = c.args.a in
     let b = c.args.b in
     is_set_of (bit_and a b) _ (and_lt 64 a b c.ranges.a.fits c.ranges.b.fits) (λ t l. has_and a b t)
-
-pub bitand_spec : {M : Type 1} → statement M
-bitand_spec = tie.close (tie.spec returns)

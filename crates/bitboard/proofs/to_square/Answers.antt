@@ -1,0 +1,23 @@
+-- `bitboard::to_square` meets its contract: the least square is where the trailing zeros end.
+use mathlib.Core.Path.{sym, ap}
+use Prim.Native.Nat.{zero, ◌<◌}
+use native.Mathlib.Omega.{arith}
+use borrow.Author.Tests.{eq-eqb, ne_eqb}
+use Rattle.bits.proofs.Least.{least_trailing, trailing_lt}
+use Rattle.refusal.specs.Paper.{gives}
+use Rattle.bitboard.proofs.to_square.Goals as goal
+
+pub returns-then-set-eq0 : goal.returns-then-set-eq0
+returns-then-set-eq0 c = simp (eq-eqb _ _ c.if-set-eq0.true)
+
+-- the set has a square
+some : (c : goal.Else-set-eq0) → zero < c.args.set
+some c = omega (arith, c.if-set-eq0.false)
+
+pub overflow_cast-least : goal.overflow_cast-least
+overflow_cast-least c = omega (arith, trailing_lt 64 c.args.set c.ranges.set.fits (some c))
+
+pub returns : goal.returns
+returns c =
+    simp (ne_eqb _ _ c.if-set-eq0.false)
+    (ap gives (sym (least_trailing 64 c.args.set c.ranges.set.fits (some c))))
