@@ -5,4 +5,3 @@
 // Ports: the arithmetic of generate_magic (src/gen_tables/magic.rs, lines 47 to 125).
 // Adds: nothing of its own.
 #![tactic(auto)]
-
