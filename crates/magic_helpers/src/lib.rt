@@ -13,7 +13,7 @@ ghost use Rattle.refusal.specs.Paper.{said, gives};
 ghost use Rattle.bits.specs.Set.{set_of};
 ghost use Rattle.square.specs.Square.{stepped, on_square};
 ghost use Rattle.board.specs.Board.{cut_off, mask, attack, on_block};
-ghost use Rattle.board.specs.Blocks.{kind_of, square_of, bits_of, size_of, shift_of, subset as subsetOf};
+ghost use Rattle.board.specs.Blocks.{kind_of, square_of, bits_of, size_of, shift_of, subset as subset_of};
 ghost use Rattle.board.specs.Walk.{step, line, up_to};
 ghost use Rattle.magic_helpers.specs.Chain.{vertical_of, chain};
 
@@ -65,7 +65,7 @@ pub fn shift_at(block: usize) -> u8
 
 // Question i of the original's rays_to_questions.
 pub fn subset_at(block: usize, i: u64) -> u64
-    ensures { result ≡ subsetOf (kind_of block) (square_of block) i }
+    ensures { result ≡ subset_of (kind_of block) (square_of block) i }
 {
     bits::deposit(i, mask_at(block))
 }
@@ -195,7 +195,7 @@ pub fn rightshift(kind: u8, sq: u8) -> Answer
 }
 
 pub fn subset(kind: u8, sq: u8, i: u64) -> Answer
-    ensures { said result ≡ on_block kind sq (gives (subsetOf kind sq i)) }
+    ensures { said result ≡ on_block kind sq (gives (subset_of kind sq i)) }
 {
     match rays::block(kind, sq) {
         Answer::Gives(b) => Answer::Gives(subset_at(b as usize, i)),

@@ -12,7 +12,7 @@ ghost use Rattle.bits.specs.Shown.{shown};
 ghost use Rattle.square.specs.Square.{read_name, name_said, stepped, up_said, down_said, left_said, right_said};
 ghost use Rattle.board.specs.Board.{rays, mask, attack, on_block};
 ghost use Rattle.board.specs.Blocks.{block_of, kind_of, square_of, size_of, shift_of, subset};
-ghost use Rattle.bmis.specs.Bmis.{of_length, in_table, filled, look_up as pextLookUp, extent_of};
+ghost use Rattle.bmis.specs.Bmis.{of_length, in_table, filled, look_up as pext_look_up, extent_of};
 ghost use Rattle.candidates.specs.OneBlock.{search_of};
 ghost use Rattle.gen_magic.specs.Builds.{told, from_seed, from_lent};
 ghost use Rattle.magic.specs.LookUp.{look_with, look_up};
@@ -315,7 +315,7 @@ pub extern "C" fn slider_pext_fill(table: &mut [u16]) -> SliderAnswer
 
 #[unsafe(no_mangle)]
 pub extern "C" fn slider_pext_moves(kind: u8, sq: u8, blockers: u64, table: &[u16]) -> SliderAnswer
-    ensures { result ≡ answer_of (in_table kind sq (length table.now) (gives (pextLookUp kind sq blockers table.now))) }
+    ensures { result ≡ answer_of (in_table kind sq (length table.now) (gives (pext_look_up kind sq blockers table.now))) }
 {
     answer(bmis::get_moves_bmi(kind, sq, blockers, table))
 }

@@ -6,17 +6,10 @@ use Rattle.bits.proofs.Count.{count_ones}
 use Rattle.board.specs.Board.{mask}
 use Rattle.board.specs.Blocks.{kind_of, square_of, bits_of}
 use Rattle.board.proofs.Attack.{mask_lt}
-use Rattle.magic_helpers.proofs.bits_at.Statement.{statement}
-use Rattle.magic_helpers.proofs.bits_at.Tie as tie
+use Rattle.magic_helpers.proofs.bits_at.Goals as goal
 
-mask_at_requires : tie.Need-mask-at-requires
-mask_at_requires c κs = search rules
-
-returns : tie.Need-returns
+pub returns : goal.returns
 unfolding bits_of
 returns c =
-    let b = c.before.args.block in
+    let b = c.args.block in
     ap ones c.mask_at.ensures ∙ sym (count_ones (mask (kind_of b) (square_of b)) (mask_lt (kind_of b) (square_of b)))
-
-pub bits_at_spec : {M : Type 1} → statement M
-bits_at_spec = tie.close (tie.spec mask_at_requires returns)
