@@ -115,7 +115,7 @@ fn put_walk(line: &[u8], walk: u64, out: &mut [u8])
     requires in_bounds { 39 ≤ length out.old }
     ensures { out.new ≡ over (answer_to line.now (Is walk)) out.old }
 {
-    bytes::copy(line, out);
+    out[0..21].copy_from_slice(line);
     out[21] = b' ';
     hex_digits::write(walk, &mut out[22..]);
     out[38] = b'\n';

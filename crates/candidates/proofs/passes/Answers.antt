@@ -1,0 +1,38 @@
+-- `candidates::passes` meets its contract.
+use Prim.Native.Nat.{ℕ, ◌*◌, ◌%◌, ◌^◌}
+use mathlib.Core.Path.{◌≡◌, sym, ap, ◌∙◌}
+use mathlib.Core.Bool.{Bool, not, ◌&&◌}
+use native.Mathlib.Nat.{mod-lt}
+use borrow.Author.Tests.{lt-ltb, le-ltb}
+use borrow.Author.Rules.{rules}
+use lib.Count.{ones}
+use lib.Dec.{ltb}
+use lib.Pow.{pow_pos}
+use Rattle.bits.specs.Set.{count}
+use Rattle.bits.proofs.Count.{count_ones}
+use Rattle.packing.specs.Pack.{agree}
+use Rattle.candidates.specs.Trial.{slot_at, value_at, passing}
+use Rattle.candidates.proofs.passes.Goals as goal
+
+-- the ones that the code counts
+counted : (c : goal.After-wrapping_mul-ones) → ltb (count (c.args.mask * c.args.candidate % 2 ^ 64)) 6 ≡ ltb (ones c.wrapping_mul-ones.result) 6
+counted c =
+    let product = c.args.mask * c.args.candidate % 2 ^ 64 in
+    ap (λ (n : ℕ). ltb n 6) (count_ones product (mod-lt (c.args.mask * c.args.candidate) (pow_pos 64)) ∙ ap ones (sym c.wrapping_mul-ones.ensures))
+
+pub returns-then-ones-lt6 : goal.returns-then-ones-lt6
+unfolding passing
+returns-then-ones-lt6 c =
+    let a = c.args in (
+      sym (ap (λ (x : Bool). not x && agree a.size (slot_at a.shift a.candidate a.questions.now) (value_at a.answers.now)) (counted c ∙ lt-ltb (ones c.wrapping_mul-ones.result) 6 c.if-ones-lt6.true)),
+      c.requires.empty,
+    )
+
+pub returns : goal.returns
+unfolding passing
+returns c =
+    let a = c.args in (
+      c.is_clean.ensures.value
+          ∙ sym (ap (λ (x : Bool). not x && agree a.size (slot_at a.shift a.candidate a.questions.now) (value_at a.answers.now)) (counted c ∙ le-ltb (ones c.wrapping_mul-ones.result) 6 c.if-ones-lt6.false)),
+      c.is_clean.ensures.empty_2,
+    )
