@@ -74,7 +74,7 @@ fn fill(
     requires work { Work size shift answers.now }
     requires empty { Empty trial.old }
     ensures rest { Rest (slot_at shift multiplier questions.now) 0 result trial.new }
-    ensures size_value { (eqb result size ≡ agree size (slot_at shift multiplier questions.now) (value_at answers.now)) × (result ≤ size) }
+    ensures agrees { (eqb result size ≡ agree size (slot_at shift multiplier questions.now) (value_at answers.now)) × (result ≤ size) }
 {
     let mut i: usize = 0;
     while i < size {
@@ -89,7 +89,7 @@ fn fill(
 
 // Wipes the slots of the first n questions: the others are 0.
 fn wipe(multiplier: u64, n: usize, shift: u8, questions: &[u64; 4096], trial: &mut [u64; 4096])
-    requires le_shift { ((52 ≤ shift) × (shift ≤ 59)) × (n ≤ 4096) }
+    requires in_range { ((52 ≤ shift) × (shift ≤ 59)) × (n ≤ 4096) }
     requires rest { Rest (slot_at shift multiplier questions.now) 0 n trial.old }
     ensures { Empty trial.new }
 {
@@ -113,7 +113,7 @@ fn is_clean(
     requires work { Work size shift answers.now }
     requires empty { Empty trial.old }
     ensures value { result ≡ agree size (slot_at shift multiplier questions.now) (value_at answers.now) }
-    ensures empty_2 { Empty trial.new }
+    ensures empty_after { Empty trial.new }
 {
     let n = fill(multiplier, size, shift, questions, answers, trial);
     wipe(multiplier, n, shift, questions, trial);
@@ -135,7 +135,7 @@ fn passes(
     requires work { Work size shift answers.now }
     requires empty { Empty trial.old }
     ensures value { result ≡ passing mask size shift questions.now answers.now candidate }
-    ensures empty_2 { Empty trial.new }
+    ensures empty_after { Empty trial.new }
 {
     let ones = u64::count_ones(bits::wrapping_mul(mask, candidate));
     if ones < 6 {

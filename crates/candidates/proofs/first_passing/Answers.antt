@@ -8,7 +8,8 @@ use native.Mathlib.Omega.{arith}
 use native.Mathlib.Decide.{ℕ_discrete}
 use borrow.Author.Rules.{rules}
 use Rattle.splitmix.specs.declared.Drawn.{Drawn}
-use Rattle.splitmix.specs.SplitMix.{after, candidate_of, state_at, candidate}
+use Rattle.splitmix.specs.declared.Generator.{Generator}
+use Rattle.splitmix.specs.SplitMix.{after, candidate_of, drawn, state_at, candidate}
 use Rattle.splitmix.proofs.Candidates.{state_first, state_next, candidate_is}
 use Rattle.packing.specs.declared.Choice.TheVariants.{Chosen}
 use Rattle.packing.proofs.Choices.{taken_first, taken_none}
@@ -19,23 +20,21 @@ pub loop-i-init : goal.loop-i-init
 loop-i-init c = (omega arith, state_first c.args.seed, c.requires.empty, λ j l. absurd (not-suc-le-zero l))
 
 pub passes-requires : goal.passes-requires
-passes-requires c = (c.requires.work, c.loop-i.invariant.2)
+passes-requires c = record { work = c.requires.work; empty = c.loop-i.invariant.2 }
 
--- the candidate that was drawn, and what was said of it
-module _ (c : goal.After-passes) where
-  drawn_is : c.draw-drawn.result.candidate ≡ candidate c.args.seed c.loop-i.i
-  drawn_is = ap (λ (d : Drawn). d.candidate) c.draw-drawn.ensures ∙ ap candidate_of c.loop-i.invariant.1 ∙ candidate_is c.args.seed c.loop-i.i
-
-  passed_is : passing c.args.mask c.args.size c.args.shift c.args.questions.now c.args.answers.now (candidate c.args.seed c.loop-i.i) ≡ c.passes.result
-  passed_is = sym (c.passes.ensures.value ∙ ap (passing c.args.mask c.args.size c.args.shift c.args.questions.now c.args.answers.now) drawn_is)
+-- the candidate that was drawn
+drawn_is : (seed i : ℕ) (g : Generator) (d : Drawn) → d ≡ drawn g → g.state ≡ state_at seed i → d.candidate ≡ candidate seed i
+drawn_is seed i g d e q = ap (λ (x : Drawn). x.candidate) e ∙ ap candidate_of q ∙ candidate_is seed i
 
 pub returns-then-passes : goal.returns-then-passes
 returns-then-passes c =
     let s = c.args in
     let l = c.loop-i in
-    ap Chosen (ap₂ (λ (m n : ℕ). record { multiplier = m; count = n }) (drawn_is c) (omega arith))
+    let is = drawn_is s.seed l.i l.generator c.draw-drawn.result c.draw-drawn.ensures l.invariant.1 in
+    let passed = sym (c.passes.ensures.value ∙ ap (passing s.mask s.size s.shift s.questions.now s.answers.now) is) in
+    ap Chosen (ap₂ (λ (m n : ℕ). record { multiplier = m; count = n }) is (omega arith))
     ∙ sym (taken_first (candidate s.seed) s.budget (λ (i : ℕ). passing s.mask s.size s.shift s.questions.now s.answers.now (candidate s.seed i)) l.i
-    (omega arith) (passed_is c ∙ c.if-passes.true) l.invariant.3)
+    (omega arith) (passed ∙ c.if-passes.true) l.invariant.3)
 
 pub loop-i-smaller : goal.loop-i-smaller
 loop-i-smaller c = omega arith
@@ -50,11 +49,13 @@ up_to p i h e j l = go (ℕ_discrete j i)
 pub loop-i-preserved : goal.loop-i-preserved
 loop-i-preserved c =
     let s = c.args in
-    let l = c.loop-i in (
+    let l = c.loop-i in
+    let is = drawn_is s.seed l.i l.generator c.draw-drawn.result c.draw-drawn.ensures l.invariant.1 in
+    let passed = sym (c.passes.ensures.value ∙ ap (passing s.mask s.size s.shift s.questions.now s.answers.now) is) in (
       omega arith,
       ap (λ (d : Drawn). d.next.state) c.draw-drawn.ensures ∙ ap (after 3) l.invariant.1 ∙ state_next s.seed l.i,
-      c.passes.ensures.empty_2,
-      λ j h. up_to (λ (k : ℕ). passing s.mask s.size s.shift s.questions.now s.answers.now (candidate s.seed k)) l.i l.invariant.3 (passed_is c ∙ c.if-passes.false) j h,
+      c.passes.ensures.empty_after,
+      λ j h. up_to (λ (k : ℕ). passing s.mask s.size s.shift s.questions.now s.answers.now (candidate s.seed k)) l.i l.invariant.3 (passed ∙ c.if-passes.false) j h,
     )
 
 pub returns : goal.returns

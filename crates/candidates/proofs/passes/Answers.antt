@@ -15,24 +15,25 @@ use Rattle.candidates.specs.Trial.{slot_at, value_at, passing}
 use Rattle.candidates.proofs.passes.Goals as goal
 
 -- the ones that the code counts
-counted : (c : goal.After-wrapping_mul-ones) → ltb (count (c.args.mask * c.args.candidate % 2 ^ 64)) 6 ≡ ltb (ones c.wrapping_mul-ones.result) 6
-counted c =
-    let product = c.args.mask * c.args.candidate % 2 ^ 64 in
-    ap (λ (n : ℕ). ltb n 6) (count_ones product (mod-lt (c.args.mask * c.args.candidate) (pow_pos 64)) ∙ ap ones (sym c.wrapping_mul-ones.ensures))
+counted : (mask candidate product : ℕ) → product ≡ mask * candidate % 2 ^ 64 → ltb (count (mask * candidate % 2 ^ 64)) 6 ≡ ltb (ones product) 6
+counted mask candidate product e =
+    ap (λ (n : ℕ). ltb n 6) (count_ones (mask * candidate % 2 ^ 64) (mod-lt (mask * candidate) (pow_pos 64)) ∙ ap ones (sym e))
 
 pub returns-then-ones-lt6 : goal.returns-then-ones-lt6
 unfolding passing
 returns-then-ones-lt6 c =
-    let a = c.args in (
-      sym (ap (λ (x : Bool). not x && agree a.size (slot_at a.shift a.candidate a.questions.now) (value_at a.answers.now)) (counted c ∙ lt-ltb (ones c.wrapping_mul-ones.result) 6 c.if-ones-lt6.true)),
-      c.requires.empty,
-    )
+    let a = c.args in
+    record {
+      value = sym (ap (λ (x : Bool). not x && agree a.size (slot_at a.shift a.candidate a.questions.now) (value_at a.answers.now)) (counted a.mask a.candidate _ c.wrapping_mul-ones.ensures ∙ lt-ltb (ones c.wrapping_mul-ones.result) 6 c.if-ones-lt6.true));
+      empty_after = c.requires.empty;
+    }
 
 pub returns : goal.returns
 unfolding passing
 returns c =
-    let a = c.args in (
-      c.is_clean.ensures.value
-          ∙ sym (ap (λ (x : Bool). not x && agree a.size (slot_at a.shift a.candidate a.questions.now) (value_at a.answers.now)) (counted c ∙ le-ltb (ones c.wrapping_mul-ones.result) 6 c.if-ones-lt6.false)),
-      c.is_clean.ensures.empty_2,
-    )
+    let a = c.args in
+    record {
+      value = c.is_clean.ensures.value
+          ∙ sym (ap (λ (x : Bool). not x && agree a.size (slot_at a.shift a.candidate a.questions.now) (value_at a.answers.now)) (counted a.mask a.candidate _ c.wrapping_mul-ones.ensures ∙ le-ltb (ones c.wrapping_mul-ones.result) 6 c.if-ones-lt6.false));
+      empty_after = c.is_clean.ensures.empty_after;
+    }

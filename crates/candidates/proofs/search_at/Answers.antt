@@ -12,7 +12,7 @@ use Rattle.candidates.proofs.search_at.Goals as goal
 pub first_passing-requires : goal.first_passing-requires
 first_passing-requires c =
     let lists = c.questions_and_answers in
-    (work c.args.block c.size_at-size.result c.shift_at-shift.result lists.new.1.0 lists.new.1.1.0 c.size_at-size.ensures c.shift_at-shift.ensures lists.ensures, empty_zeros)
+    record { work = work c.args.block c.size_at-size.result c.shift_at-shift.result lists.new.questions lists.new.answers c.size_at-size.ensures c.shift_at-shift.ensures lists.ensures; empty = empty_zeros }
 
 pub returns : goal.returns
 unfolding by_search first_passing
@@ -21,4 +21,4 @@ returns c =
     let lists = c.questions_and_answers in
     c.first_passing.ensures
     ∙ ap (λ (p : ℕ → Bool). taken_at (candidate s.seed) s.budget (least s.budget p))
-    (fun_ext (λ (i : ℕ). passes_is s.block c.size_at-size.result c.shift_at-shift.result lists.new.1.0 lists.new.1.1.0 c.size_at-size.ensures c.shift_at-shift.ensures lists.ensures c.mask_at-mask.result (candidate s.seed i) c.mask_at-mask.ensures))
+    (fun_ext (λ (i : ℕ). passes_is s.block c.size_at-size.result c.shift_at-shift.result lists.new.questions lists.new.answers c.size_at-size.ensures c.shift_at-shift.ensures lists.ensures c.mask_at-mask.result (candidate s.seed i) c.mask_at-mask.ensures))

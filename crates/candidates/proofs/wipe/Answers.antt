@@ -28,15 +28,12 @@ overflow_add-i c = omega arith
 pub loop-i-smaller : goal.loop-i-smaller
 loop-i-smaller c = omega arith
 
-at_slot : (c : goal.After-slot-at) → c.slot-at.result ≡ slot_at c.args.shift c.args.multiplier c.args.questions.now c.loop-i.i
-unfolding slot_at
-at_slot c = c.slot-at.ensures.0
-
 pub loop-i-preserved : goal.loop-i-preserved
+unfolding slot_at
 loop-i-preserved c =
     let l = c.loop-i in
     let a = c.args in
-    (omega arith, rest_less (slot_at a.shift a.multiplier a.questions.now) l.i a.n c.slot-at.result l.trial (at_slot c) c.slot-at.ensures.1 l.invariant.1)
+    (omega arith, rest_less (slot_at a.shift a.multiplier a.questions.now) l.i a.n c.slot-at.result l.trial c.slot-at.ensures.0 c.slot-at.ensures.1 l.invariant.1)
 
 pub returns : goal.returns
 returns c =
