@@ -1,0 +1,34 @@
+-- `gen_magic::settle` meets its contract.
+use Prim.Native.Nat.{ℕ, ◌≤◌}
+use mathlib.Core.Path.{◌≡◌, sym, ◌∙◌, subst}
+use native.Mathlib.Omega.{arith}
+use Rattle.board.specs.Blocks.{kind_of, square_of, size_of}
+use Rattle.board.proofs.Blocks.{kind_lt, square_lt}
+use Rattle.board.proofs.Sizes.{size_high}
+use Rattle.gen_magic.specs.Builds.{slots}
+use Rattle.gen_magic.proofs.Turns.{first_low, no_room, chosen, none_chosen}
+use borrow.Author.Rules.{rules}
+use Rattle.gen_magic.proofs.settle.Goals as goal
+
+size_small : (b size : ℕ) → size ≡ size_of (kind_of b) (square_of b) → size ≤ 4096
+size_small b size e = subst (λ (n : ℕ). n ≤ 4096) (sym e) (size_high (kind_of b) (square_of b) (kind_lt b) (square_lt b))
+
+pub first_free-place-requires : goal.first_free-place-requires
+first_free-place-requires c = omega (arith, size_small c.args.block _ c.size_at-size.ensures, c.requires.0)
+
+pub overflow_add-place : goal.overflow_add-place
+overflow_add-place c = omega (arith, size_small c.args.block _ c.size_at-size.ensures, c.requires.0, c.first_free-place.ensures, first_low c.size_at-size.result c.rays_at.result (slots c.args.marks.now) c.args.end)
+
+pub returns-then-place-size : goal.returns-then-place-size
+returns-then-place-size c = let a = c.args in
+    no_room a.source a.multipliers.now a.block a.end a.marks.now c.size_at-size.result c.rays_at.result c.first_free-place.result c.size_at-size.ensures c.rays_at.ensures c.first_free-place.ensures c.if-place-size.true
+
+pub returns-in-Chosen : goal.returns-in-Chosen
+returns-in-Chosen c = let f = c in
+    let a = f.args in
+    chosen a.source a.multipliers.now a.block a.end a.marks.now f.size_at-size.result f.rays_at.result f.first_free-place.result f.size_at-size.ensures f.rays_at.ensures f.first_free-place.ensures c.in-Chosen.taken c.if-place-size.false (sym c.in-Chosen.ensures)
+
+pub returns-in-None : goal.returns-in-None
+returns-in-None c = let f = c in
+    let a = f.args in
+    none_chosen a.source a.multipliers.now a.block a.end a.marks.now f.size_at-size.result f.rays_at.result f.first_free-place.result f.size_at-size.ensures f.rays_at.ensures f.first_free-place.ensures c.unchosen.result c.if-place-size.false (sym c.in-None.ensures) c.unchosen.ensures
