@@ -1,0 +1,16 @@
+-- `magic::check_blocks` meets its contract: the blocks before this one hold.
+use borrow.Author.Rules.{rules}
+use Prim.Native.Nat.{ℕ, ◌-◌, ◌≤◌, zero-le}
+use mathlib.Core.Path.{◌≡◌, sym, ap, ◌∙◌}
+use native.Mathlib.Omega.{arith}
+use Rattle.refusal.specs.Paper.{gives}
+use Rattle.gen_magic.specs.Builds.{record_in}
+use Rattle.magic.specs.Audit.{in_turn, block_says, blocks_say, checked}
+use Rattle.magic.proofs.Audits.{turn_none, turn_more, turn_stops}
+use Rattle.magic.proofs.check_blocks.Given as goal
+
+abbrev pub invariant-loop-block : goal.invariant-loop-block
+invariant-loop-block l = (l.block ≤ 128) × (in_turn l.block (λ b. block_says b (record_in l.records b) l.table) ≡ gives tt)
+
+abbrev pub decreases-loop-block : goal.decreases-loop-block
+decreases-loop-block l = 128 - l.block

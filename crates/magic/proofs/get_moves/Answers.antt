@@ -1,0 +1,20 @@
+-- `magic::get_moves` meets its contract, by the block.
+use mathlib.Core.Path.{sym, ap, ◌∙◌}
+use Rattle.refusal.specs.Paper.{said}
+use Rattle.board.specs.Blocks.{block_of}
+use Rattle.board.proofs.Blocks.{by_block, refused_block}
+use Rattle.magic.specs.LookUp.{look_up}
+use borrow.Author.Rules.{rules}
+use Rattle.magic.proofs.get_moves.Goals as goal
+
+pub returns-in-Gives : goal.returns-in-Gives
+returns-in-Gives c = let found = c in
+    let a = found.args in
+    c.look_up.ensures
+    ∙ by_block a.kind a.sq _ (λ k s. look_up k s a.blockers a.magic a.table.now) c.in-Gives.ensures
+
+pub returns-in-Refuses : goal.returns-in-Refuses
+returns-in-Refuses c = let found = c in
+    let a = found.args in
+    refused_block a.kind a.sq _ _ (block_of a.kind a.sq) (look_up a.kind a.sq a.blockers a.magic a.table.now)
+    c.in-Refuses.ensures
