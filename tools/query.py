@@ -2,11 +2,13 @@
 
     python3 tools/query.py store              writes crates/query/stdin and crates/query/stdout
     python3 tools/query.py try [COMMAND ..]   runs a program (tools/query) on real pipes: edge lines, damaged lines, random
-                                              bytes, a byte at a time, cuts anywhere, a line of 100 MB; then times a million
-                                              queries
+                                              bytes, a byte at a time, cuts anywhere, a line of 100 MB, reads and writes that
+                                              fail; then times a million queries
 """
 import pathlib
 import random
+import socket
+import struct
 import subprocess
 import sys
 import threading
@@ -116,6 +118,22 @@ def in_cuts(command, stream, cut):
     return said[0]
 
 
+def failing(command):
+    """A read or a write that fails ends the run with status 1, and a line that it cut is not answered."""
+    with socket.create_server(('127.0.0.1', 0)) as server:
+        far = socket.create_connection(server.getsockname())
+        near = server.accept()[0]
+    program = subprocess.Popen(command, stdin=near, stdout=subprocess.PIPE, stderr=subprocess.DEVNULL)
+    near.close()
+    far.sendall(EXAMPLE + EXAMPLE[:9])
+    assert program.stdout.read(len(EXAMPLE_SAYS)) == EXAMPLE_SAYS
+    far.setsockopt(socket.SOL_SOCKET, socket.SO_LINGER, struct.pack('ii', 1, 0))  # so that it is reset, not closed
+    far.close()
+    assert (program.stdout.read(), program.wait()) == (b'', 1)
+    with open('/dev/full', 'wb') as full:
+        assert subprocess.run(command, input=EXAMPLE, stdout=full, stderr=subprocess.DEVNULL).returncode == 1
+
+
 def attempt(command):
     assert output(EXAMPLE) == EXAMPLE_SAYS
     at_once(command, b'')  # which proves and builds it, where that is still to be done
@@ -133,7 +151,8 @@ def attempt(command):
         compared += 2
     long = b'R d4 000008000A000000' * (100 * 1024 * 1024 // 21) + b'\n' + EXAMPLE
     assert at_once(command, long) == b'slider 1\n?\n' + EXAMPLE_SAYS[9:]
-    print(compared + 1, 'runs, all as the rule says')
+    failing(command)
+    print(compared + 1, 'runs, all as the rule says, and 2 that fail')
     million = b'\n'.join(good() for _ in range(1000000)) + b'\n'
     begun = time.time()
     said = at_once(command, million)

@@ -166,7 +166,7 @@ fn library(here: &Path) {
     let archive = watched(if path.is_dir() { path.join("libslider.a") } else { path });
     if !archive.is_file() || archive.file_name() != Some("libslider.a".as_ref()) {
         stop(format!(
-            "No libslider.a at {}: run `rt staticlib slider` in the repository, or set SLIDER_LIB.",
+            "No libslider.a at {}: run rust/library, or set SLIDER_LIB.",
             archive.display()
         ));
     }

@@ -5,14 +5,15 @@ use std::path::{Path, PathBuf};
 use std::process::{Command, Output};
 
 const RT: &str = r#"#!/bin/sh
-echo "$*" >> calls
+top=$(dirname "$0")/..
+echo "$*" >> "$top/calls"
 [ "$1" != version ] || { echo "kit-of-tests logic 0"; exit; }
 echo "rt: a proved (1 s)"
 echo "fn a: proved"
-[ ! -e fails ] || exit 1
-if [ -e edited ]; then sleep 0.1; echo more >> crates/a; fi
-mkdir -p target/staticlib
-echo archive > target/staticlib/libslider.a
+[ ! -e "$top/fails" ] || exit 1
+if [ -e "$top/edited" ]; then sleep 0.1; echo more >> "$top/crates/a"; fi
+mkdir -p out
+echo archive > out/libslider.a
 "#;
 
 struct Repository(PathBuf);
@@ -21,7 +22,7 @@ impl Repository {
     fn new(name: &str) -> Repository {
         let top = PathBuf::from(env!("CARGO_TARGET_TMPDIR")).join("scripts").join(name);
         let _ = fs::remove_dir_all(&top);
-        for folder in ["bin", "crates", "rust", "tools"] {
+        for folder in ["bin", "crates/slider", "rust", "tools"] {
             fs::create_dir_all(top.join(folder)).unwrap();
         }
         let here = Path::new(env!("CARGO_MANIFEST_DIR"));
@@ -35,13 +36,13 @@ impl Repository {
         Repository(top)
     }
 
-    /// `rust/library`, and how often `rt staticlib` has been called up to now.
+    /// `rust/library`, and how often `rt lib` has been called up to now.
     fn library(&self) -> (Output, usize) {
         let path = format!("{}:{}", self.0.join("bin").display(), std::env::var("PATH").unwrap());
         let script = self.0.join("rust/library");
         let output = Command::new(script).env("PATH", path).env_remove("SLIDER_LIB").current_dir("/").output().unwrap();
         let calls = fs::read_to_string(self.0.join("calls")).unwrap_or_default();
-        (output, calls.lines().filter(|call| *call == "staticlib slider").count())
+        (output, calls.lines().filter(|call| *call == "lib").count())
     }
 
     fn write(&self, path: &str, text: &str) {
@@ -88,7 +89,7 @@ fn what_is_not_proved_is_not_built() {
     top.write("fails", "");
     let (output, _) = top.library();
     assert_eq!(output.status.code(), Some(2));
-    assert!(text(&output.stderr).contains("rt staticlib slider failed: see "), "{}", text(&output.stderr));
+    assert!(text(&output.stderr).contains("rt lib in crates/slider failed: see "), "{}", text(&output.stderr));
     fs::remove_file(top.0.join("fails")).unwrap();
     assert_eq!(top.library().0.status.code(), Some(0));
     top.write("fails", "");

@@ -7,10 +7,10 @@
 #![tactic(auto)]
 
 ghost use Rattle.std.specs.Prelude.{◌≡◌, length};
-ghost use Rattle.lines.specs.Run.{chunk_size, room_size};
 
-use libc::{STDIN_FILENO, STDOUT_FILENO};
 use lines::Pending;
+use std::io;
+use std::io::{Read, Write};
 
 // What a chunk leaves, and whether there may be another.
 #[derive(Drop)]
@@ -19,65 +19,70 @@ struct Turn {
     more: bool,
 }
 
-// The line that has begun, to be answered if the input ends here; none, where a read or a write failed: such a line was
-// cut, and nothing is answered that was not asked.
-fn kept(whole: bool, pending: Pending) -> Pending {
-    if whole { pending } else { lines::start() }
+// The line that has begun, to be answered if the input ends here; none, where a write failed: such a line was cut, and
+// nothing is answered that was not asked.
+fn kept(whole: io::Result<()>, pending: Pending) -> io::Result<Pending> {
+    whole?;
+    Ok(pending)
 }
 
 // Reads a chunk, and writes the answers of the lines that end in it. A read or a write that fails ends the run. The
 // buffer has room for what a whole chunk makes written, so that none of it is left over.
-fn one_turn(pending: Pending, chunk: &mut [u8], out: &mut [u8]) -> Turn
-    requires chunk_len { length chunk.old ≡ chunk_size }
-    requires out_len { length out.old ≡ room_size }
+fn one_turn<R: Read, W: Write>(
+    reader: &mut R,
+    writer: &mut W,
+    pending: Pending,
+    chunk: &mut [u8],
+    out: &mut [u8],
+) -> io::Result<Turn>
+    requires chunk_len { length chunk.old ≡ 16384 }
+    requires out_len { length out.old ≡ 32812 }
 {
-    let got = libc::read(STDIN_FILENO, chunk);
-    let n = io::count(got, chunk);
+    let n = reader.read(chunk)?;
     if n == 0 {
-        let last = kept(got == 0, pending);
-        return Turn {
-            pending: last,
+        return Ok(Turn {
+            pending,
             more: false,
-        };
+        });
     }
     let fed = lines::feed(pending, &chunk[0..n], out);
-    check::expect(fed.used == n);
-    let len = fed.len;
-    let more = io::write_all(STDOUT_FILENO, &out[0..len]);
-    let next = kept(more, fed.pending);
-    Turn {
+    prove!(fed.used == n);
+    let written = writer.write_all(&out[0..fed.len]);
+    let next = kept(written, fed.pending)?;
+    Ok(Turn {
         pending: next,
-        more,
-    }
+        more: true,
+    })
 }
 
 // A proved loop ends, and nothing says that the input does: the turns count down from a number that no run uses up.
-fn all_turns(chunk: &mut [u8], out: &mut [u8]) -> Pending
-    requires chunk_len { length chunk.old ≡ chunk_size }
-    requires out_len { length out.old ≡ room_size }
+fn all_turns<R: Read, W: Write>(
+    reader: &mut R,
+    writer: &mut W,
+    chunk: &mut [u8],
+    out: &mut [u8],
+) -> io::Result<Pending>
+    requires chunk_len { length chunk.old ≡ 16384 }
+    requires out_len { length out.old ≡ 32812 }
 {
     let mut pending = lines::start();
-    let mut turns = u64::MAX;
-    while turns > 0 {
-        let t = one_turn(pending, chunk, out);
-        let next = t.pending;
-        pending = next;
-        if !t.more {
-            return pending;
+    for _ in 0..u64::MAX {
+        let turn = one_turn(reader, writer, pending, chunk, out)?;
+        pending = turn.pending;
+        if !turn.more {
+            break;
         }
-        turns -= 1;
     }
-    pending
+    Ok(pending)
 }
 
-fn main() {
-    let mut chunk = [0u8; lines::CHUNK];
-    let mut out = [0u8; lines::ROOM];
-    let head = lines::header();
-    if !io::write_all(STDOUT_FILENO, &head) {
-        return;
-    }
-    let pending = all_turns(&mut chunk, &mut out);
+fn main(rt: HostRuntime) -> io::Result<()> {
+    let mut chunk = [0u8; 16384];
+    let mut out = [0u8; 32812];
+    let mut reader = rt.stdin();
+    let mut writer = rt.stdout();
+    writer.write_all(&lines::header())?;
+    let pending = all_turns(&mut reader, &mut writer, &mut chunk, &mut out)?;
     let len = lines::finish(pending, &mut out);
-    io::write_all(STDOUT_FILENO, &out[0..len]);
+    writer.write_all(&out[0..len])
 }

@@ -8,74 +8,74 @@
 // Adds: all of it.
 #![tactic(auto)]
 
-use libc::{STDIN_FILENO, STDOUT_FILENO};
 use lines::Query;
 use refusal::Answer;
 use square::Name;
+use std::io;
+use std::io::{ErrorKind, Read, Write};
 
 // A space and a set in 16 digits; no refusal is recorded.
-fn set(answer: Answer) {
+fn set<W: Write>(out: &mut W, answer: Answer) -> io::Result<()> {
     let Answer::Gives(squares) = answer else {
-        io::write_all(STDOUT_FILENO, b" refused");
-        return;
+        return out.write_all(b" refused");
     };
     let mut digits = [0u8; 16];
     hex_digits::write(squares, &mut digits);
-    io::write_all(STDOUT_FILENO, b" ");
-    io::write_all(STDOUT_FILENO, &digits);
+    out.write_all(b" ")?;
+    out.write_all(&digits)
 }
 
-fn end() {
-    io::write_all(STDOUT_FILENO, b"\n");
+fn end<W: Write>(out: &mut W) -> io::Result<()> {
+    out.write_all(b"\n")
 }
 
 // Piece, square, rays, mask.
-fn block(piece: u8, kind: u8, sq: u8) {
+fn block<W: Write>(out: &mut W, piece: u8, kind: u8, sq: u8) -> io::Result<()> {
     if let Name::Bytes(letter, digit) = square::to_name(sq) {
-        let name = [piece, b' ', letter, digit];
-        io::write_all(STDOUT_FILENO, &name);
+        out.write_all(&[piece, b' ', letter, digit])?;
     }
-    set(rays::get_rays(kind, sq));
-    set(magic_helpers::magic_mask(kind, sq));
-    end();
+    set(out, rays::get_rays(kind, sq))?;
+    set(out, magic_helpers::magic_mask(kind, sq))?;
+    end(out)
 }
 
-fn blocks(piece: u8, kind: u8) {
-    let mut sq: u8 = 0;
-    while sq < 64 {
-        block(piece, kind, sq);
-        sq += 1;
+fn blocks<W: Write>(out: &mut W, piece: u8, kind: u8) -> io::Result<()> {
+    for sq in 0..64 {
+        block(out, piece, kind, sq)?;
     }
+    Ok(())
 }
 
 // A line of the query program's form, and the walk that it asks for.
-fn walk(line: &[u8]) {
-    io::write_all(STDOUT_FILENO, line);
+fn walk<W: Write>(out: &mut W, line: &[u8]) -> io::Result<()> {
+    out.write_all(line)?;
     if let Query::Walk {
         kind,
         square,
         blockers,
     } = lines::read_line(line)
     {
-        set(magic_helpers::walk(kind, square, blockers));
+        set(out, magic_helpers::walk(kind, square, blockers))?;
     }
-    end();
+    end(out)
 }
 
-fn walks() {
+// The input's lines, to their end.
+fn walks<R: Read, W: Write>(input: &mut R, out: &mut W) -> io::Result<()> {
     let mut line = [0u8; 22];
-    let mut left: u64 = 2048;
-    while left > 0 {
-        if io::read_full(STDIN_FILENO, &mut line) < 22 {
-            return;
+    for _ in 0..2048 {
+        match input.read_exact(&mut line) {
+            Ok(()) => walk(out, &line[0..21])?,
+            Err(e) if e.kind() == ErrorKind::UnexpectedEof => return Ok(()),
+            Err(e) => return Err(e),
         }
-        walk(&line[0..21]);
-        left -= 1;
     }
+    Ok(())
 }
 
-fn main() {
-    blocks(b'R', 0);
-    blocks(b'B', 1);
-    walks();
+fn main(rt: HostRuntime) -> io::Result<()> {
+    let mut out = rt.stdout();
+    blocks(&mut out, b'R', 0)?;
+    blocks(&mut out, b'B', 1)?;
+    walks(&mut rt.stdin(), &mut out)
 }

@@ -9,223 +9,218 @@
 #![tactic(auto)]
 
 use bitboard::Found;
-use libc::STDOUT_FILENO;
 use refusal::{Answer, Refusal};
 use square::{Name, Step};
+use std::io;
 
-fn hex(n: u64) {
-    io::print_hex(STDOUT_FILENO, n, 16);
-    io::write_all(STDOUT_FILENO, b" ");
+fn hex(rt: &impl Print, n: u64) -> io::Result<()> {
+    print!(rt; "{n:016x} ")
 }
 
-fn end() {
-    io::write_all(STDOUT_FILENO, b"\n");
+fn end(rt: &impl Print) -> io::Result<()> {
+    println!(rt)
 }
 
 // An answer, or R and the refusal's number.
-fn answer(a: Answer) {
+fn answer(rt: &impl Print, a: Answer) -> io::Result<()> {
     match a {
-        Answer::Gives(x) => hex(x),
+        Answer::Gives(x) => hex(rt, x),
         Answer::Refuses(r) => {
-            io::write_all(STDOUT_FILENO, b"R");
-            hex(refusal::number(r) as u64);
+            print!(rt; "R")?;
+            hex(rt, refusal::number(r) as u64)
         }
     }
 }
 
-fn step(s: Step) {
+fn step(rt: &impl Print, s: Step) -> io::Result<()> {
     match s {
-        Step::To(t) => hex(t as u64),
-        Step::Off => {
-            io::write_all(STDOUT_FILENO, b"off ");
-        }
+        Step::To(t) => hex(rt, t as u64),
+        Step::Off => print!(rt; "off "),
         Step::Refused(r) => {
-            io::write_all(STDOUT_FILENO, b"R");
-            hex(refusal::number(r) as u64);
+            print!(rt; "R")?;
+            hex(rt, refusal::number(r) as u64)
         }
     }
 }
 
 // Both instructions of the manual's figures on one source.
-fn figure(source: u64) {
-    hex(source);
-    hex(bits::deposit(source, 0x1000_00A4));
-    hex(bits::extract(source, 0x1000_00A4));
-    end();
+fn figure(rt: &impl Print, source: u64) -> io::Result<()> {
+    hex(rt, source)?;
+    hex(rt, bits::deposit(source, 0x1000_00A4))?;
+    hex(rt, bits::extract(source, 0x1000_00A4))?;
+    end(rt)
 }
 
 fn next_state(state: u64) -> u64 {
-    std::num::wrapping_add_u64(
-        bits::wrapping_mul(state, 0x5851_F42D_4C95_7F2D),
-        0x1405_7B7E_F767_814F,
-    )
+    bits::wrapping_mul(state, 0x5851_F42D_4C95_7F2D).wrapping_add(0x1405_7B7E_F767_814F)
 }
 
 // One row: arithmetic.
-fn row(x: u64, mask: u64) {
-    hex(x);
-    hex(mask);
-    hex(bits::extract(x, mask));
-    hex(bits::deposit(x, mask));
-    hex(bits::wrapping_mul(x, mask));
-    hex(bitboard::mul(mask, x));
-    hex(bits::shift_right(x, mask % 128));
-    hex(bitboard::to_size(x, (mask % 256) as u8) as u64);
-    end();
+fn row(rt: &impl Print, x: u64, mask: u64) -> io::Result<()> {
+    hex(rt, x)?;
+    hex(rt, mask)?;
+    hex(rt, bits::extract(x, mask))?;
+    hex(rt, bits::deposit(x, mask))?;
+    hex(rt, bits::wrapping_mul(x, mask))?;
+    hex(rt, bitboard::mul(mask, x))?;
+    hex(rt, bits::shift_right(x, mask % 128))?;
+    hex(rt, bitboard::to_size(x, (mask % 256) as u8) as u64)?;
+    end(rt)
 }
 
 // The same row: sets.
-fn set_row(x: u64, mask: u64) {
-    hex(bitboard::bitand(x, mask));
-    hex(bitboard::bitor(x, mask));
-    hex(bitboard::bitxor(x, mask));
-    hex(bitboard::not(mask));
-    hex(bitboard::popcnt(mask) as u64);
-    answer(bitboard::to_square(mask));
+fn set_row(rt: &impl Print, x: u64, mask: u64) -> io::Result<()> {
+    hex(rt, bitboard::bitand(x, mask))?;
+    hex(rt, bitboard::bitor(x, mask))?;
+    hex(rt, bitboard::bitxor(x, mask))?;
+    hex(rt, bitboard::not(mask))?;
+    hex(rt, bitboard::popcnt(mask) as u64)?;
+    answer(rt, bitboard::to_square(mask))?;
     match bitboard::next(mask) {
         Found::At { square, rest } => {
-            hex(square as u64);
-            hex(rest);
+            hex(rt, square as u64)?;
+            hex(rt, rest)?;
         }
-        Found::End => {
-            io::write_all(STDOUT_FILENO, b"end ");
-        }
+        Found::End => print!(rt; "end ")?,
     }
-    end();
+    end(rt)
 }
 
-fn both_rows(x: u64, mask: u64) {
-    row(x, mask);
-    set_row(x, mask);
+fn both_rows(rt: &impl Print, x: u64, mask: u64) -> io::Result<()> {
+    row(rt, x, mask)?;
+    set_row(rt, x, mask)
 }
 
 // Three rows, with masks of about a quarter, three quarters and an eighth of the bits; answers the state after them.
-fn three_rows(state: u64) -> u64 {
+fn three_rows(rt: &impl Print, state: u64) -> io::Result<u64> {
     let a = next_state(state);
     let b = next_state(a);
     let c = next_state(b);
-    both_rows(a, b & c);
-    both_rows(b, a | c);
-    both_rows(c, a & (b & (c >> 17)));
-    c
+    both_rows(rt, a, b & c)?;
+    both_rows(rt, b, a | c)?;
+    both_rows(rt, c, a & (b & (c >> 17)))?;
+    Ok(c)
 }
 
-fn rows() {
+fn rows(rt: &impl Print) -> io::Result<()> {
     let mut state: u64 = 20261115;
-    let mut n: u64 = 0;
-    while n < 100 {
-        state = three_rows(state);
-        n += 1;
+    for _ in 0..100 {
+        state = three_rows(rt, state)?;
     }
-    both_rows(state, 0);
-    both_rows(state, 0xFFFF_FFFF_FFFF_FFFF);
+    both_rows(rt, state, 0)?;
+    both_rows(rt, state, 0xFFFF_FFFF_FFFF_FFFF)
 }
 
-fn one_square(sq: u8) {
-    answer(square::get_rank(sq));
-    answer(square::get_file(sq));
-    step(square::left(sq));
-    step(square::right(sq));
-    step(square::up(sq));
-    step(square::down(sq));
-    answer(bitboard::from_square(sq));
+fn one_square(rt: &impl Print, sq: u8) -> io::Result<()> {
+    answer(rt, square::get_rank(sq))?;
+    answer(rt, square::get_file(sq))?;
+    step(rt, square::left(sq))?;
+    step(rt, square::right(sq))?;
+    step(rt, square::up(sq))?;
+    step(rt, square::down(sq))?;
+    answer(rt, bitboard::from_square(sq))?;
     if let Name::Bytes(letter, figure) = square::to_name(sq) {
         let name = [letter, figure, b'x'];
-        io::write_all(STDOUT_FILENO, &name);
-        io::write_all(STDOUT_FILENO, b" ");
-        answer(square::from_str(&name));
+        rt.write_all(&name)?;
+        print!(rt; " ")?;
+        answer(rt, square::from_str(&name))?;
     }
-    end();
+    end(rt)
 }
 
 // All squares, and two past the last.
-fn squares() {
-    let mut sq: u8 = 0;
-    while sq < 66 {
-        one_square(sq);
-        sq += 1;
+fn squares(rt: &impl Print) -> io::Result<()> {
+    for sq in 0..66 {
+        one_square(rt, sq)?;
     }
+    Ok(())
 }
 
 // A rank and a file, on the board or not.
-fn rank_file(rank: u8, file: u8) {
-    answer(square::make_square(rank, file));
-    answer(bitboard::set(rank, file));
-    end();
+fn rank_file(rt: &impl Print, rank: u8, file: u8) -> io::Result<()> {
+    answer(rt, square::make_square(rank, file))?;
+    answer(rt, bitboard::set(rank, file))?;
+    end(rt)
 }
 
-fn name(bytes: &[u8]) {
-    answer(square::from_str(bytes));
-    end();
+fn name(rt: &impl Print, bytes: &[u8]) -> io::Result<()> {
+    answer(rt, square::from_str(bytes))?;
+    end(rt)
 }
 
-fn names() {
-    name(b"");
-    name(b"a");
-    name(b"a1");
-    name(b"h8");
-    name(b"d4");
-    name(b"d4 is a square");
-    name(b"i1");
-    name(b"`1");
-    name(b"a9");
-    name(b"a0");
-    name(b"A1");
-    name(b"1a");
-    name(b" a1");
-    name(b"a\xB1");
-    name(b"\xE11");
-    name(b"\x00\x00");
+fn names(rt: &impl Print) -> io::Result<()> {
+    name(rt, b"")?;
+    name(rt, b"a")?;
+    name(rt, b"a1")?;
+    name(rt, b"h8")?;
+    name(rt, b"d4")?;
+    name(rt, b"d4 is a square")?;
+    name(rt, b"i1")?;
+    name(rt, b"`1")?;
+    name(rt, b"a9")?;
+    name(rt, b"a0")?;
+    name(rt, b"A1")?;
+    name(rt, b"1a")?;
+    name(rt, b" a1")?;
+    name(rt, b"a\xB1")?;
+    name(rt, b"\xE11")?;
+    name(rt, b"\x00\x00")
 }
 
-fn number(r: Refusal) {
-    hex(refusal::number(r) as u64);
+fn number(rt: &impl Print, r: Refusal) -> io::Result<()> {
+    hex(rt, refusal::number(r) as u64)
 }
 
-fn numbers() {
-    number(Refusal::Kind);
-    number(Refusal::Square);
-    number(Refusal::LengthsDiffer);
-    number(Refusal::NoRoom { block: 3 });
-    number(Refusal::Spent { block: 4 });
-    number(Refusal::Collides { block: 5 });
-    number(Refusal::Index);
-    number(Refusal::IndexAt {
-        block: 6,
-        subset: 1,
-    });
-    number(Refusal::Shift);
-    number(Refusal::RecordAt { block: 7 });
-    number(Refusal::Length);
-    number(Refusal::Budget);
-    number(Refusal::SlotAt {
-        block: 8,
-        subset: 2,
-    });
-    end();
+fn numbers(rt: &impl Print) -> io::Result<()> {
+    number(rt, Refusal::Kind)?;
+    number(rt, Refusal::Square)?;
+    number(rt, Refusal::LengthsDiffer)?;
+    number(rt, Refusal::NoRoom { block: 3 })?;
+    number(rt, Refusal::Spent { block: 4 })?;
+    number(rt, Refusal::Collides { block: 5 })?;
+    number(rt, Refusal::Index)?;
+    number(
+        rt,
+        Refusal::IndexAt {
+            block: 6,
+            subset: 1,
+        },
+    )?;
+    number(rt, Refusal::Shift)?;
+    number(rt, Refusal::RecordAt { block: 7 })?;
+    number(rt, Refusal::Length)?;
+    number(rt, Refusal::Budget)?;
+    number(
+        rt,
+        Refusal::SlotAt {
+            block: 8,
+            subset: 2,
+        },
+    )?;
+    end(rt)
 }
 
-fn main() {
-    figure(1);
-    figure(2);
-    figure(4);
-    figure(8);
-    figure(10);
-    figure(15);
-    figure(0xFFFF_FFFF_FFFF_FFF0);
-    figure(0x1000_00A4);
-    figure(0xFFFF_FFFF_EFFF_FF5B);
-    figure(0x20);
-    rows();
-    squares();
-    rank_file(0, 0);
-    rank_file(7, 0);
-    rank_file(0, 7);
-    rank_file(3, 4);
-    rank_file(7, 7);
-    rank_file(8, 0);
-    rank_file(0, 8);
-    rank_file(255, 255);
-    names();
-    numbers();
+fn main(rt: HostRuntime) -> io::Result<()> {
+    figure(&rt, 1)?;
+    figure(&rt, 2)?;
+    figure(&rt, 4)?;
+    figure(&rt, 8)?;
+    figure(&rt, 10)?;
+    figure(&rt, 15)?;
+    figure(&rt, 0xFFFF_FFFF_FFFF_FFF0)?;
+    figure(&rt, 0x1000_00A4)?;
+    figure(&rt, 0xFFFF_FFFF_EFFF_FF5B)?;
+    figure(&rt, 0x20)?;
+    rows(&rt)?;
+    squares(&rt)?;
+    rank_file(&rt, 0, 0)?;
+    rank_file(&rt, 7, 0)?;
+    rank_file(&rt, 0, 7)?;
+    rank_file(&rt, 3, 4)?;
+    rank_file(&rt, 7, 7)?;
+    rank_file(&rt, 8, 0)?;
+    rank_file(&rt, 0, 8)?;
+    rank_file(&rt, 255, 255)?;
+    names(&rt)?;
+    numbers(&rt)
 }
