@@ -5,4 +5,3 @@
 // Ports: nothing.
 // Adds: all of it.
 #![tactic(auto)]
-

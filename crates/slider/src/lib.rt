@@ -208,58 +208,50 @@ fn step(step: Step) -> SliderStep
 
 // ---- the board
 
-#[unsafe(no_mangle)]
-pub extern "C" fn slider_rays(kind: u8, sq: u8) -> SliderAnswer
+pub fn slider_rays(kind: u8, sq: u8) -> SliderAnswer
     ensures { result ≡ answer_of (on_block kind sq (gives (rays kind sq))) }
 {
     answer(rays::get_rays(kind, sq))
 }
 
-#[unsafe(no_mangle)]
-pub extern "C" fn slider_mask(kind: u8, sq: u8) -> SliderAnswer
+pub fn slider_mask(kind: u8, sq: u8) -> SliderAnswer
     ensures { result ≡ answer_of (on_block kind sq (gives (mask kind sq))) }
 {
     answer(magic_helpers::magic_mask(kind, sq))
 }
 
-#[unsafe(no_mangle)]
-pub extern "C" fn slider_size(kind: u8, sq: u8) -> SliderAnswer
+pub fn slider_size(kind: u8, sq: u8) -> SliderAnswer
     ensures { result ≡ answer_of (on_block kind sq (gives (size_of kind sq))) }
 {
     answer(magic_helpers::size(kind, sq))
 }
 
-#[unsafe(no_mangle)]
-pub extern "C" fn slider_shift(kind: u8, sq: u8) -> SliderAnswer
+pub fn slider_shift(kind: u8, sq: u8) -> SliderAnswer
     ensures { result ≡ answer_of (on_block kind sq (gives (shift_of kind sq))) }
 {
     answer(magic_helpers::rightshift(kind, sq))
 }
 
-#[unsafe(no_mangle)]
-pub extern "C" fn slider_subset(kind: u8, sq: u8, i: u64) -> SliderAnswer
+pub fn slider_subset(kind: u8, sq: u8, i: u64) -> SliderAnswer
     ensures { result ≡ answer_of (on_block kind sq (gives (subset kind sq i))) }
 {
     answer(magic_helpers::subset(kind, sq, i))
 }
 
-#[unsafe(no_mangle)]
-pub extern "C" fn slider_walk(kind: u8, sq: u8, blockers: u64) -> SliderAnswer
+pub fn slider_walk(kind: u8, sq: u8, blockers: u64) -> SliderAnswer
     ensures { result ≡ answer_of (on_block kind sq (gives (attack kind sq blockers))) }
 {
     answer(magic_helpers::walk(kind, sq, blockers))
 }
 
 // The square of a name: a letter a to h, then a digit 1 to 8; what follows is ignored.
-#[unsafe(no_mangle)]
-pub extern "C" fn slider_square(name: &[u8]) -> SliderAnswer
+pub fn slider_square(name: &[u8]) -> SliderAnswer
     ensures { result ≡ answer_of (read_name name.now) }
 {
     answer(square::from_str(name))
 }
 
-#[unsafe(no_mangle)]
-pub extern "C" fn slider_name(sq: u8) -> SliderName
+pub fn slider_name(sq: u8) -> SliderName
     ensures { result ≡ name_of (name_said sq) }
 {
     match square::to_name(sq) {
@@ -276,29 +268,25 @@ pub extern "C" fn slider_name(sq: u8) -> SliderName
     }
 }
 
-#[unsafe(no_mangle)]
-pub extern "C" fn slider_up(sq: u8) -> SliderStep
+pub fn slider_up(sq: u8) -> SliderStep
     ensures { result ≡ step_of (up_said sq) }
 {
     step(square::up(sq))
 }
 
-#[unsafe(no_mangle)]
-pub extern "C" fn slider_down(sq: u8) -> SliderStep
+pub fn slider_down(sq: u8) -> SliderStep
     ensures { result ≡ step_of (down_said sq) }
 {
     step(square::down(sq))
 }
 
-#[unsafe(no_mangle)]
-pub extern "C" fn slider_left(sq: u8) -> SliderStep
+pub fn slider_left(sq: u8) -> SliderStep
     ensures { result ≡ step_of (left_said sq) }
 {
     step(square::left(sq))
 }
 
-#[unsafe(no_mangle)]
-pub extern "C" fn slider_right(sq: u8) -> SliderStep
+pub fn slider_right(sq: u8) -> SliderStep
     ensures { result ≡ step_of (right_said sq) }
 {
     step(square::right(sq))
@@ -306,23 +294,20 @@ pub extern "C" fn slider_right(sq: u8) -> SliderStep
 
 // ---- PEXT tables
 
-#[unsafe(no_mangle)]
-pub extern "C" fn slider_pext_fill(table: &mut [u16]) -> SliderAnswer
+pub fn slider_pext_fill(table: &mut [u16]) -> SliderAnswer
     ensures { (result ≡ answer_of (of_length (length table.old) (gives 107648))) × (table.new ≡ filled table.old) }
 {
     answer(bmis::gen_all_bmis(table))
 }
 
-#[unsafe(no_mangle)]
-pub extern "C" fn slider_pext_moves(kind: u8, sq: u8, blockers: u64, table: &[u16]) -> SliderAnswer
+pub fn slider_pext_moves(kind: u8, sq: u8, blockers: u64, table: &[u16]) -> SliderAnswer
     ensures { result ≡ answer_of (in_table kind sq (length table.now) (gives (pext_look_up kind sq blockers table.now))) }
 {
     answer(bmis::get_moves_bmi(kind, sq, blockers, table))
 }
 
 // Where a square's block lies in a table of so many entries.
-#[unsafe(no_mangle)]
-pub extern "C" fn slider_pext_place(kind: u8, sq: u8, table: &[u16]) -> SliderPlace
+pub fn slider_pext_place(kind: u8, sq: u8, table: &[u16]) -> SliderPlace
     ensures { result ≡ place_of (in_table kind sq (length table.now) (gives (extent_of kind sq))) }
 {
     match bmis::bmi_place(kind, sq, table) {
@@ -341,8 +326,7 @@ pub extern "C" fn slider_pext_place(kind: u8, sq: u8, table: &[u16]) -> SliderPl
 
 // ---- magic tables
 
-#[unsafe(no_mangle)]
-pub extern "C" fn slider_search(kind: u8, sq: u8, seed: u64, budget: u64) -> SliderFound
+pub fn slider_search(kind: u8, sq: u8, seed: u64, budget: u64) -> SliderFound
     ensures { result ≡ found_of (on_block kind sq (search_of (block_of kind sq) seed budget)) }
 {
     match candidates::search(kind, sq, seed, budget) {
@@ -361,8 +345,7 @@ pub extern "C" fn slider_search(kind: u8, sq: u8, seed: u64, budget: u64) -> Sli
     }
 }
 
-#[unsafe(no_mangle)]
-pub extern "C" fn slider_build(
+pub fn slider_build(
     seed: u64,
     budget: u64,
     table: &mut [u64],
@@ -373,8 +356,7 @@ pub extern "C" fn slider_build(
     built(gen_magic::gen_all_magic(seed, budget, table, marks))
 }
 
-#[unsafe(no_mangle)]
-pub extern "C" fn slider_build_lent(
+pub fn slider_build_lent(
     multipliers: &[u64],
     table: &mut [u64],
     marks: &mut [u64],
@@ -384,8 +366,7 @@ pub extern "C" fn slider_build_lent(
     built(gen_magic::gen_all_lent(multipliers, table, marks))
 }
 
-#[unsafe(no_mangle)]
-pub extern "C" fn slider_moves(
+pub fn slider_moves(
     kind: u8,
     sq: u8,
     blockers: u64,
@@ -397,8 +378,7 @@ pub extern "C" fn slider_moves(
     answer(magic::get_moves(kind, sq, blockers, magic, table))
 }
 
-#[unsafe(no_mangle)]
-pub extern "C" fn slider_audit(set: SliderRecords, table: &[u64]) -> SliderVerdict
+pub fn slider_audit(set: SliderRecords, table: &[u64]) -> SliderVerdict
     ensures { result ≡ verdict_of (audit_says set.records table.now) }
 {
     let records = set.records;
@@ -429,8 +409,7 @@ fn fewer(a: usize, b: usize) -> usize
     b
 }
 
-#[unsafe(no_mangle)]
-pub extern "C" fn slider_walk_batch(
+pub fn slider_walk_batch(
     kinds: &[u8],
     squares: &[u8],
     blockers: &[u64],
@@ -451,8 +430,7 @@ pub extern "C" fn slider_walk_batch(
     n as u64
 }
 
-#[unsafe(no_mangle)]
-pub extern "C" fn slider_pext_moves_batch(
+pub fn slider_pext_moves_batch(
     table: &[u16],
     kinds: &[u8],
     squares: &[u8],
@@ -514,8 +492,7 @@ fn moves_with(
     }
 }
 
-#[unsafe(no_mangle)]
-pub extern "C" fn slider_moves_batch(
+pub fn slider_moves_batch(
     set: SliderRecords,
     table: &[u64],
     kinds: &[u8],
