@@ -1,6 +1,4 @@
 -- `bmis::block_at` meets its contract.
-use Prim.Native.Nat.{◌-◌}
-use borrow.Author.Rules.{rules}
 use Rattle.bmis.proofs.Sums.{block_is}
 use Rattle.bmis.proofs.block_at.Goals as goal
 

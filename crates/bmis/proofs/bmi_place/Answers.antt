@@ -1,12 +1,10 @@
 -- `bmis::bmi_place` meets its contract: by the block, or the refusal.
 use Prim.Native.Nat.{ℕ}
-use mathlib.Core.Path.{sym, ap, ap₂, ◌∙◌}
-use borrow.Author.Rules.{rules}
+use mathlib.Core.Path.{ap₂, ◌∙◌}
 use lib.ListN.{length}
-use Rattle.refusal.specs.Paper.{gives, said}
-use Rattle.board.specs.Blocks.{block_of}
+use Rattle.refusal.specs.Paper.{gives}
 use Rattle.bmis.specs.Bmis.{extent_of}
-use Rattle.bmis.proofs.InTable.{by_table, refused_table}
+use Rattle.bmis.proofs.InTable.{by_table}
 use Rattle.bmis.proofs.bmi_place.Goals as goal
 
 pub returns-in-Gives : goal.returns-in-Gives
@@ -16,9 +14,3 @@ returns-in-Gives c =
     ap₂ (λ (x y : ℕ). gives (record { offset = x; size = y })) c.offset_at-offset.ensures c.size_at-size.ensures
     ∙ by_table a.kind a.sq (length a.table.now) c.in-Gives.b (λ (k s : ℕ). gives (extent_of k s))
     c.in-Gives.ensures
-
-pub returns-in-Refuses : goal.returns-in-Refuses
-returns-in-Refuses c =
-    let a = c.args in
-    refused_table a.kind a.sq (length a.table.now) _ _ (block_of a.kind a.sq) (gives (extent_of a.kind a.sq))
-    c.in-Refuses.ensures

@@ -1,7 +1,6 @@
 -- `bmis::entry_at` meets its contract: an entry has at most 14 bits.
 use Prim.Native.Nat.{ℕ, ◌^◌, ◌<◌}
 use mathlib.Core.Path.{◌≡◌, sym, ap, ap₂, ◌∙◌, subst}
-use borrow.Author.Rules.{rules}
 use Rattle.bits.specs.Intel.{pext, pdep}
 use Rattle.board.specs.Board.{attack}
 use Rattle.board.specs.Blocks.{kind_of, square_of}

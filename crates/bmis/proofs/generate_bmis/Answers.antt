@@ -1,11 +1,9 @@
 -- `bmis::generate_bmis` meets its contract: before turn i, the part begins with the first i entries.
-use Prim.Native.Nat.{◌-◌, ◌≤◌}
-use mathlib.Core.Path.{◌≡◌, refl}
+use mathlib.Core.Path.{refl}
 use native.Mathlib.Omega.{arith}
-use borrow.Author.Rules.{rules}
-use lib.ListN.{length, take, length-set}
+use lib.ListN.{length-set}
 use Rattle.bits.specs.Shown.{shown}
-use Rattle.bits.proofs.Shown.{shown_store, shown_whole}
+use Rattle.bits.proofs.Shown.{shown_store}
 use Rattle.board.specs.Blocks.{kind_of, square_of}
 use Rattle.bmis.specs.Bmis.{entry}
 use Rattle.bmis.proofs.generate_bmis.Goals as goal
@@ -22,11 +20,3 @@ loop-i-preserved c =
       simp length-set l.invariant.1,
       shown_store l.i c.entry_at-packed.result l.part (entry (kind_of b) (square_of b)) l.invariant.2 (omega arith) c.entry_at-packed.ensures,
     )
-
-pub returns : goal.returns
-returns c =
-    let l = c.loop-i in
-    let b = c.args.block in
-    let n = length c.args.part.now in
-    let e : l.i ≡ n = omega arith in
-    shown_whole n l.part (entry (kind_of b) (square_of b)) l.invariant.1 (rw e at l.invariant.2)

@@ -1,11 +1,8 @@
 -- `bmis::generate_bmis` meets its contract: before turn i, the part begins with the first i entries.
 use Prim.Native.Nat.{◌-◌, ◌≤◌}
-use mathlib.Core.Path.{◌≡◌, refl}
-use native.Mathlib.Omega.{arith}
-use borrow.Author.Rules.{rules}
-use lib.ListN.{length, take, length-set}
+use mathlib.Core.Path.{◌≡◌}
+use lib.ListN.{length, take}
 use Rattle.bits.specs.Shown.{shown}
-use Rattle.bits.proofs.Shown.{shown_store, shown_whole}
 use Rattle.board.specs.Blocks.{kind_of, square_of}
 use Rattle.bmis.specs.Bmis.{entry}
 use Rattle.bmis.proofs.generate_bmis.Given as goal

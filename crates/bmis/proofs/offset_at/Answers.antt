@@ -2,7 +2,6 @@
 use Prim.Native.Nat.{◌+◌, ◌-◌, ◌*◌, ◌/◌, ◌%◌}
 use mathlib.Core.Path.{◌∙◌}
 use native.Mathlib.Omega.{arith}
-use borrow.Author.Rules.{rules}
 use Rattle.board.specs.Blocks.{kind_of, square_of}
 use Rattle.bmis.specs.Bmis.{offset_of}
 use Rattle.bmis.proofs.Sums.{start_is}
