@@ -345,34 +345,19 @@ pub fn slider_search(kind: u8, sq: u8, seed: u64, budget: u64) -> SliderFound
     }
 }
 
-pub fn slider_build(
-    seed: u64,
-    budget: u64,
-    table: &mut [u64],
-    marks: &mut [u64],
-) -> SliderBuild
+pub fn slider_build(seed: u64, budget: u64, table: &mut [u64], marks: &mut [u64]) -> SliderBuild
     ensures { handed result table.new marks.new ≡ handed_of (from_seed seed budget table.old marks.old) }
 {
     built(gen_magic::gen_all_magic(seed, budget, table, marks))
 }
 
-pub fn slider_build_lent(
-    multipliers: &[u64],
-    table: &mut [u64],
-    marks: &mut [u64],
-) -> SliderBuild
+pub fn slider_build_lent(multipliers: &[u64], table: &mut [u64], marks: &mut [u64]) -> SliderBuild
     ensures { handed result table.new marks.new ≡ handed_of (from_lent multipliers.now table.old marks.old) }
 {
     built(gen_magic::gen_all_lent(multipliers, table, marks))
 }
 
-pub fn slider_moves(
-    kind: u8,
-    sq: u8,
-    blockers: u64,
-    magic: Record,
-    table: &[u64],
-) -> SliderAnswer
+pub fn slider_moves(kind: u8, sq: u8, blockers: u64, magic: Record, table: &[u64]) -> SliderAnswer
     ensures { result ≡ answer_of (on_block kind sq (look_up kind sq blockers magic table.now)) }
 {
     answer(magic::get_moves(kind, sq, blockers, magic, table))

@@ -19,7 +19,11 @@ ghost use Rattle.magic.specs.Audit.{audit_says};
 ghost use Rattle.slider.specs.Flat.{value_at, answer_of, verdict_of, found_of, number_in, block_in, build_of, handed, handed_of, place_of, name_of, step_of};
 ghost use Rattle.slider.specs.Batch.{Batch, fewest, walk_asked, pext_asked, moves_asked};
 
-use slider::{SliderAnswer, SliderBuild, SliderFound, SliderName, SliderPlace, SliderRecords, SliderStep, SliderVerdict};
+use gen_magic::Record;
+use slider::{
+    SliderAnswer, SliderBuild, SliderFound, SliderName, SliderPlace, SliderRecords, SliderStep,
+    SliderVerdict,
+};
 
 #[unsafe(no_mangle)]
 pub extern "C" fn slider_rays(kind: u8, sq: u8) -> SliderAnswer
