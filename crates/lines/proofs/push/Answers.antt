@@ -1,6 +1,5 @@
 -- `lines::push` meets its contract, by the test.
 use borrow.Author.Tests.{lt-ltb, le-ltb}
-use borrow.Author.Rules.{rules}
 use Rattle.lines.specs.Calls.{pushed}
 use Rattle.lines.proofs.push.Goals as goal
 
