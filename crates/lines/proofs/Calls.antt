@@ -41,6 +41,14 @@ ending_fits p room = go (eqb p.len 0)
     go true = omega arith
     go false = fitting_fits (answer_line (line_of p)) room
 
+pub ending_none : (p : Pending) (room : ℕ) → p.len ≡ 0 → ending p room ≡ []
+unfolding ending
+ending_none p room h = simp (eq-eqb _ _ h)
+
+pub ending_some : (p : Pending) (room : ℕ) → (p.len ≡ 0 → ⊥) → ending p room ≡ answered (line_of p) room
+unfolding ending
+ending_some p room h = simp (ne_eqb _ _ h)
+
 pub answered_by : (line : List ℕ) (room : ℕ) (v : Value) → walk_of (query_of line) ≡ v → answered line room ≡ fitting (answer_to line v) room
 unfolding answered answer_line
 answered_by line room v e = ap (λ (x : Value). fitting (answer_to line x) room) e

@@ -89,13 +89,16 @@ module _ (p : Pending) (chunk out₀ : List ℕ) where
         }
 
   -- all of the bytes for which there is room
-  pub fed_all : (n i : ℕ) (state : Pending) (at : ℕ) (out : List ℕ) → FedTo p chunk out₀ i state at out → i ≡ n → n ≡ min (length chunk) (room_for (length out₀)) → (record { pending = state; len = at; used = n } ≡ fed_of p chunk (length out₀)) × (out ≡ over (written p (taken chunk (length out₀))) out₀)
+  pub fed_all : (n i : ℕ) (state : Pending) (at : ℕ) (out : List ℕ) → FedTo p chunk out₀ i state at out → i ≡ n → n ≡ min (length chunk) (room_for (length out₀)) → record { value : record { pending = state; len = at; used = n } ≡ fed_of p chunk (length out₀); out_after : out ≡ over (written p (taken chunk (length out₀))) out₀ }
   unfolding fed_of taken
   fed_all n i state at out f e g =
       let s = take i chunk in
       let t : s ≡ taken chunk (length out₀) = ap (λ (k : ℕ). take k chunk) (e ∙ g) ∙ take_min chunk (room_for (length out₀)) in
       let used : n ≡ length s = omega (arith, length-take i chunk) in
-      (of_parts s f.state_is f.at_is used ∙ ap all t, f.out_is ∙ ap (λ (s : List ℕ). over (written p s) out₀) t)
+      record {
+        value = of_parts s f.state_is f.at_is used ∙ ap all t;
+        out_after = f.out_is ∙ ap (λ (s : List ℕ). over (written p s) out₀) t;
+      }
     where
       all : List ℕ → Fed
       all s = record { pending = after p s; len = length (written p s); used = length s }

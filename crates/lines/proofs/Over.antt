@@ -5,10 +5,10 @@ use mathlib.Core.Path.{◌≡◌, refl, sym, ap, ◌∙◌}
 use mathlib.Core.List.{List, [], ◌∷◌, ◌++◌, append_assoc, append-nil}
 use native.Mathlib.Omega.{arith}
 use native.Mathlib.Numerals.{add-one}
-use lib.ListN.{length, get_or, take, drop, set, length-append, length-take, length-drop, drop_of_length-le}
-use lib.Seq.{drop-cons, drop-drop, drop_at, take_at, set_at, take_all, take-length, append_snoc}
+use lib.ListN.{length, get_or, drop, set, length-append, length-take, length-drop, drop_of_length-le}
+use lib.Seq.{drop-cons, drop-drop, drop_at, take_at, set_at, take_all, append_snoc}
 use borrow.Author.Tests.{le-leb}
-use borrow.Rule.Slice.PartMut.{mid_of, put_mid}
+use borrow.Rule.Slice.PartMut.{mid_of, post_of, put_mid}
 use Rattle.hex_digits.specs.Hex.{digits, write_word}
 use Rattle.hex_digits.proofs.Laws.{digits_length}
 use Rattle.lines.specs.Calls.{over}
@@ -17,14 +17,21 @@ pub over_none : (out : List ℕ) → over [] out ≡ out
 unfolding over
 over_none out = refl
 
--- a call's length and buffer, where what it laid has another name
-pub over_as : (r : ℕ) (o out : List ℕ) {l k : List ℕ} → l ≡ k → (r ≡ length l) × (o ≡ over l out) → (r ≡ length k) × (o ≡ over k out)
-over_as r o out e h = (h.0 ∙ ap length e, h.1 ∙ ap (λ (x : List ℕ). over x out) e)
+-- what a call gives and leaves that lays bytes over the start of a buffer: their count, and the buffer with them
+abbrev pub Laid : ℕ → List ℕ → List ℕ → List ℕ → Type 0
+Laid r o out l = record { value : r ≡ length l; out_after : o ≡ over l out }
 
--- what `bytes::copy` leaves
-pub over_copy : (w out : List ℕ) → take (length w) w ++ drop (length w) out ≡ over w out
+-- the same, where the bytes have another name
+pub over_as : (r : ℕ) (o out : List ℕ) {l k : List ℕ} → l ≡ k → Laid r o out l → Laid r o out k
+over_as r o out e h = record {
+  value = h.value ∙ ap length e;
+  out_after = h.out_after ∙ ap (λ (x : List ℕ). over x out) e;
+}
+
+-- what a copy to the first n bytes leaves
+pub over_copy : (w out part : List ℕ) (n : ℕ) → part ≡ w → length w ≡ n → part ++ post_of 0 n out ≡ over w out
 unfolding over
-over_copy w out = rw take-length
+over_copy w out part n e h = rw (e, ← h)
 
 pub over_length : (w out : List ℕ) → length w ≤ length out → length (over w out) ≡ length out
 unfolding over

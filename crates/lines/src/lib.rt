@@ -170,6 +170,7 @@ pub fn start() -> Pending
 }
 
 // A byte more of a line. The bytes after the 22nd are left out.
+#[tactic(auto, using(crate::proofs::Calls::pushed_in, crate::proofs::Calls::pushed_full))]
 fn push(pending: Pending, byte: u8) -> Pending
     ensures { result ≡ pushed pending byte }
 {
@@ -210,6 +211,7 @@ fn answer_pending(pending: Pending, out: &mut [u8]) -> usize
 }
 
 // Takes one byte of the stream.
+#[tactic(auto, using(crate::proofs::Calls::next_in, crate::proofs::Calls::says_in, crate::proofs::Calls::next_end, crate::proofs::Calls::answered_end, crate::proofs::Over::over_none))]
 fn take_byte(pending: Pending, byte: u8, out: &mut [u8]) -> Step
     requires { length (says_of pending byte) ≤ length out.old }
     ensures pending_value { result.pending ≡ next_of pending byte }
@@ -264,6 +266,7 @@ pub fn feed(pending: Pending, chunk: &[u8], out: &mut [u8]) -> Fed
 
 // Puts the answer to a last line that no line feed ended at the start of out, and gives the answer's length. Where there
 // is no such line or out is too short for the answer, out stays as it is, and 0 is given.
+#[tactic(auto, using(crate::proofs::Calls::ending_none, crate::proofs::Calls::ending_some, crate::proofs::Over::over_none))]
 pub fn finish(pending: Pending, out: &mut [u8]) -> usize
     ensures value { result ≡ length (ending pending (length out.old)) }
     ensures out_after { out.new ≡ over (ending pending (length out.old)) out.old }

@@ -2,7 +2,6 @@
 use mathlib.Core.Path.{refl, sym}
 use lib.ListN.{set}
 use lib.Seq.{sets-eq}
-use borrow.Author.Rules.{rules}
 use Rattle.lines.specs.Line.{mark}
 use Rattle.lines.specs.Calls.{over}
 use Rattle.lines.proofs.Over.{over_as}
@@ -13,10 +12,11 @@ pub returns-then-out-lt2 : goal.returns-then-out-lt2
 unfolding over
 returns-then-out-lt2 c =
     let out = c.args.out.now in
-    over_as 0 out out (sym (fitting_not mark _ c.if-out-lt2.true)) (refl, refl)
+    over_as 0 out out (sym (fitting_not mark _ c.if-out-lt2.true)) (record { value = refl; out_after = refl })
 
 pub returns : goal.returns
 unfolding over
 returns c =
     let out = c.args.out.now in
-    over_as 2 (set (set out 0 63) 1 10) out (sym (fitting_is mark _ c.if-out-lt2.false)) (refl, sets-eq mark out 0 c.if-out-lt2.false)
+    over_as 2 (set (set out 0 63) 1 10) out (sym (fitting_is mark _ c.if-out-lt2.false))
+    (record { value = refl; out_after = sets-eq mark out 0 c.if-out-lt2.false })

@@ -1,6 +1,5 @@
 -- `lines::read_line` meets its contract, by the tests that led to each answer.
 use borrow.Author.Tests.{eq-eqb, ne_eqb}
-use borrow.Author.Rules.{rules}
 use Rattle.lines.specs.Line.{query_of}
 use Rattle.lines.proofs.read_line.Goals as goal
 
