@@ -6,4 +6,3 @@
 // Ports: nothing.
 // Adds: all of it.
 #![tactic(auto)]
-
