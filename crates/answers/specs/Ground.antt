@@ -1,5 +1,5 @@
 -- Answers of `refusal`, `bits`, `bitboard`, `square`, `splitmix` and `hex`.
-use Rattle.std.specs.Prelude.{ℕ, ◌+◌, ◌*◌, ◌/◌, ◌%◌, ◌^◌, List, [], ◌∷◌, ◌++◌, replicate}
+use Rattle.std.specs.Prelude.{ℕ, ◌*◌, ◌/◌, ◌%◌, ◌^◌, List, [], ◌∷◌, ◌++◌, replicate}
 use Rattle.std.proofs.Math.Option.{Option}
 use Rattle.std.specs.Int.Count.{ones}
 use Rattle.refusal.specs.declared.Refusal.TheVariants.{Spent, IndexAt}

@@ -1,6 +1,6 @@
 -- One turn of the loops of `extract` and `deposit`, as the code has it.
 -- Assumes nothing.
-use Rattle.std.proofs.Common.{◌≡◌, ℕ, zero, suc, ◌+◌, ◌*◌, ◌/◌, ◌%◌, ◌^◌, ◌<◌, min, sym, ap, ◌∙◌, ap₂, zero-add, add-one, arith, shl_exact}
+use Rattle.std.proofs.Common.{◌≡◌, ℕ, zero, suc, ◌+◌, ◌*◌, ◌/◌, ◌%◌, ◌^◌, ◌<◌, min, sym, ap, ◌∙◌, ap₂, add-one, arith, shl_exact}
 use native.Mathlib.Nat.{zero-min}
 use lib.Bits.{bit_and, bit_or, and_mask, or_shifted_r}
 use Rattle.std.proofs.lemmas.Nat.{and_comm}

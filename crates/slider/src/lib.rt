@@ -1,4 +1,4 @@
-// What a program in Rust or C links: the crates' functions under C names, over plain data.
+// What a program in Rust or C asks: the crates' functions over plain data. `slider_c` exports each under its name.
 //
 // Holds: builds, look-ups (one query, and a batch over lent slices), PEXT fill and look-ups, walk, audit, one-block search,
 // rays, masks, sizes, shifts, subsets, square names and steps. A refusal is its number in 01's table, 0 stands for none.

@@ -2,7 +2,6 @@
 use Prim.Native.Nat.{◌≤◌}
 use mathlib.Core.Path.{ap}
 use native.Mathlib.Omega.{arith}
-use borrow.Author.Rules.{rules}
 use borrow.Author.Tests.{lt-ltb, le-ltb}
 use Rattle.bits.proofs.Digit.{shl_one as shl-one-is}
 use Rattle.refusal.specs.Paper.{gives}

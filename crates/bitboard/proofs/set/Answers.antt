@@ -1,9 +1,8 @@
 -- `bitboard::set` meets its contract: a square that is given is on the board, and a refusal is passed on.
 use Prim.Native.Nat.{ℕ, ◌%◌, ◌<◌}
-use mathlib.Core.Path.{◌≡◌, sym, ap, ◌∙◌}
+use mathlib.Core.Path.{◌≡◌, ap, ◌∙◌}
 use native.Mathlib.Omega.{arith}
-use borrow.Author.Rules.{rules}
-use Rattle.refusal.specs.Paper.{Said, gives, said, and_then}
+use Rattle.refusal.specs.Paper.{Said, gives, and_then}
 use Rattle.square.specs.Square.{make_square}
 use Rattle.square.proofs.Laws.{make_low}
 use Rattle.bitboard.specs.Bitboard.{square_set}

@@ -1,5 +1,5 @@
 -- `bits::deposit` meets its contract: before turn m, k is how many mask squares are below m, and dest is what they hold.
-use Rattle.std.proofs.Common.{◌≡◌, ℕ, ◌+◌, ◌-◌, ◌*◌, ◌/◌, ◌^◌, ◌<◌, ◌≤◌, min, sym, refl, ap, ◌∙◌, subst, ap₂, add-one, arith}
+use Rattle.std.proofs.Common.{◌≡◌, ℕ, ◌+◌, ◌*◌, ◌/◌, ◌^◌, ◌<◌, min, sym, refl, ap, ◌∙◌, subst, ap₂, add-one, arith}
 use lib.Bits.{mask_lt}
 use Rattle.bits.specs.Set.{bit, from_bits, count_below}
 use Rattle.bits.proofs.Count.{count_le}

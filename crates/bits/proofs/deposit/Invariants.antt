@@ -1,11 +1,7 @@
 -- `bits::deposit` meets its contract: before turn m, k is how many mask squares are below m, and dest is what they hold.
-use Rattle.std.proofs.Common.{◌≡◌, ℕ, ◌+◌, ◌-◌, ◌*◌, ◌/◌, ◌^◌, ◌<◌, ◌≤◌, min, sym, refl, ap, ◌∙◌, subst, ap₂, add-one, arith}
-use lib.Bits.{mask_lt}
-use Rattle.bits.specs.Set.{bit, from_bits, count_below}
-use Rattle.bits.proofs.Count.{count_le}
-use Rattle.bits.proofs.Forms.{spread, spread_lt}
-use Rattle.bits.proofs.Intel.{pdep_is}
-use Rattle.bits.proofs.Turn.{turn_code, turn_count}
+use Rattle.std.proofs.Common.{◌≡◌, ◌-◌, ◌≤◌}
+use Rattle.bits.specs.Set.{count_below}
+use Rattle.bits.proofs.Forms.{spread}
 use Rattle.bits.proofs.deposit.Given as goal
 
 abbrev pub invariant-loop-m : goal.invariant-loop-m

@@ -1,5 +1,5 @@
 -- `bits::extract` meets its contract: before turn m, k is how many mask squares are below m, and dest is what they take.
-use Rattle.std.proofs.Common.{◌≡◌, ℕ, ◌+◌, ◌-◌, ◌*◌, ◌/◌, ◌^◌, ◌<◌, ◌≤◌, min, sym, refl, ap, ◌∙◌, ap₂, subst₂, add-one, arith}
+use Rattle.std.proofs.Common.{◌≡◌, ℕ, ◌+◌, ◌*◌, ◌/◌, ◌^◌, ◌<◌, min, sym, refl, ap, ◌∙◌, ap₂, subst₂, add-one, arith}
 use lib.Bits.{mask_lt}
 use Rattle.bits.specs.Set.{bit, count_below}
 use Rattle.bits.proofs.Count.{count_le}

@@ -1,11 +1,7 @@
 -- `bits::extract` meets its contract: before turn m, k is how many mask squares are below m, and dest is what they take.
-use Rattle.std.proofs.Common.{◌≡◌, ℕ, ◌+◌, ◌-◌, ◌*◌, ◌/◌, ◌^◌, ◌<◌, ◌≤◌, min, sym, refl, ap, ◌∙◌, ap₂, subst₂, add-one, arith}
-use lib.Bits.{mask_lt}
-use Rattle.bits.specs.Set.{bit, count_below}
-use Rattle.bits.proofs.Count.{count_le}
-use Rattle.bits.proofs.Forms.{packed, packed_lt}
-use Rattle.bits.proofs.Intel.{pext_is}
-use Rattle.bits.proofs.Turn.{turn_code, turn_count}
+use Rattle.std.proofs.Common.{◌≡◌, ◌-◌, ◌≤◌}
+use Rattle.bits.specs.Set.{count_below}
+use Rattle.bits.proofs.Forms.{packed}
 use Rattle.bits.proofs.extract.Given as goal
 
 abbrev pub invariant-loop-m : goal.invariant-loop-m

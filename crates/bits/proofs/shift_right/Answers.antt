@@ -1,5 +1,5 @@
 -- `bits::shift_right` meets its contract: from 64 on, 2 ^ n is above every 64-bit number.
-use Rattle.std.proofs.Common.{sym, lt_of_lt_of_le, pow_mono, rules}
+use Rattle.std.proofs.Common.{sym, lt_of_lt_of_le, pow_mono}
 use native.Mathlib.Nat.{div-eq_of_lt}
 use Rattle.bits.proofs.shift_right.Goals as goal
 

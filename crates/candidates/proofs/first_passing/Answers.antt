@@ -1,19 +1,18 @@
 -- `candidates::first_passing` meets its contract: before turn i the generator stands at candidate i, and none before it
 -- passes.
-use Prim.Native.Nat.{ℕ, ◌+◌, ◌-◌, ◌≤◌, ◌<◌}
+use Prim.Native.Nat.{ℕ, ◌+◌, ◌<◌}
 use mathlib.Core.Path.{◌≡◌, sym, ap, ap₂, ◌∙◌}
 use mathlib.Core.Bool.{Bool, false}
 use native.Mathlib.Nat.{not-suc-le-zero}
 use native.Mathlib.Omega.{arith}
 use native.Mathlib.Decide.{ℕ_discrete}
-use borrow.Author.Rules.{rules}
 use Rattle.splitmix.specs.declared.Drawn.{Drawn}
 use Rattle.splitmix.specs.declared.Generator.{Generator}
 use Rattle.splitmix.specs.SplitMix.{after, candidate_of, drawn, state_at, candidate}
 use Rattle.splitmix.proofs.Candidates.{state_first, state_next, candidate_is}
 use Rattle.packing.specs.declared.Choice.TheVariants.{Chosen}
 use Rattle.packing.proofs.Choices.{taken_first, taken_none}
-use Rattle.candidates.specs.Trial.{Empty, passing}
+use Rattle.candidates.specs.Trial.{passing}
 use Rattle.candidates.proofs.first_passing.Goals as goal
 
 pub loop-i-init : goal.loop-i-init

@@ -1,9 +1,7 @@
 -- `candidates::lent_at` meets its contract: the arrays are the block's.
-use mathlib.Core.Path.{◌≡◌, sym, ap, ◌∙◌}
+use mathlib.Core.Path.{sym, ap, ◌∙◌}
 use mathlib.Core.Bool.{Bool}
-use borrow.Author.Rules.{rules}
-use Rattle.packing.specs.Pack.{clean, chosen_if, by_lent}
-use Rattle.blocks.specs.Real.{real}
+use Rattle.packing.specs.Pack.{chosen_if, by_lent}
 use Rattle.candidates.proofs.Block.{work, clean_is, empty_zeros}
 use Rattle.candidates.proofs.lent_at.Goals as goal
 

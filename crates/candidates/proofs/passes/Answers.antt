@@ -4,7 +4,6 @@ use mathlib.Core.Path.{◌≡◌, sym, ap, ◌∙◌}
 use mathlib.Core.Bool.{Bool, not, ◌&&◌}
 use native.Mathlib.Nat.{mod-lt}
 use borrow.Author.Tests.{lt-ltb, le-ltb}
-use borrow.Author.Rules.{rules}
 use lib.Count.{ones}
 use lib.Dec.{ltb}
 use lib.Pow.{pow_pos}

@@ -1,9 +1,8 @@
 -- `candidates::questions_and_answers` meets its contract: before turn i the first i of each stand at the front.
-use Prim.Native.Nat.{ℕ, ◌-◌, ◌≤◌}
+use Prim.Native.Nat.{ℕ, ◌≤◌}
 use mathlib.Core.Path.{◌≡◌, refl, ap, ◌∙◌}
 use native.Mathlib.Omega.{arith}
-use borrow.Author.Rules.{rules}
-use lib.ListN.{length, take, length-set}
+use lib.ListN.{length-set}
 use Rattle.bits.specs.Shown.{shown}
 use Rattle.bits.proofs.Shown.{shown_store}
 use Rattle.board.specs.Board.{attack}

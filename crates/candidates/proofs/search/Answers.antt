@@ -1,8 +1,7 @@
 -- `candidates::search` meets its contract, by the block.
 use Prim.Native.Nat.{ℕ}
-use mathlib.Core.Path.{sym, ap, ◌∙◌}
-use borrow.Author.Rules.{rules}
-use Rattle.refusal.specs.Paper.{Said, gives, said, and_then}
+use mathlib.Core.Path.{ap, ◌∙◌}
+use Rattle.refusal.specs.Paper.{Said, gives, and_then}
 use Rattle.board.specs.Blocks.{block_of}
 use Rattle.board.proofs.Blocks.{block_then, refused_block}
 use Rattle.candidates.specs.OneBlock.{search_of}

@@ -2,7 +2,6 @@
 use Prim.Native.Nat.{ℕ}
 use mathlib.Core.Path.{ap, ◌∙◌, fun_ext}
 use mathlib.Core.Bool.{Bool}
-use borrow.Author.Rules.{rules}
 use Rattle.bits.specs.Set.{least}
 use Rattle.splitmix.specs.SplitMix.{candidate}
 use Rattle.packing.specs.Pack.{taken_at, first_passing, by_search}

@@ -3,7 +3,6 @@ use Prim.Native.Nat.{ℕ, ◌≤◌}
 use mathlib.Core.Path.{◌≡◌, sym, ap, ◌∙◌}
 use mathlib.Core.Bool.{Bool}
 use borrow.Author.Tests.{lt-ltb, le-ltb}
-use borrow.Author.Rules.{rules}
 use Rattle.refusal.specs.Paper.{refuse_if}
 use Rattle.splitmix.specs.SplitMix.{candidate}
 use Rattle.packing.specs.declared.Choice.{Choice}

@@ -1,9 +1,7 @@
 -- `candidates::wipe` meets its contract: before turn i only slots of later questions may hold a walk.
-use Prim.Native.Nat.{◌-◌, ◌≤◌}
 use mathlib.Core.Path.{◌≡◌}
 use native.Mathlib.Omega.{arith}
-use borrow.Author.Rules.{rules}
-use Rattle.candidates.specs.Trial.{Rest, slot_at}
+use Rattle.candidates.specs.Trial.{slot_at}
 use Rattle.candidates.proofs.Trials.{rest_less, rest_none}
 use Rattle.candidates.proofs.wipe.Goals as goal
 

@@ -8,7 +8,6 @@ use Rattle.gen_magic.specs.Builds.{slots}
 use Rattle.packing.specs.Pack.{by_lent}
 use Rattle.gen_magic.specs.declared.Source.{Source}
 use Rattle.gen_magic.specs.Turn.{choice_by}
-use borrow.Author.Rules.{rules}
 use Rattle.gen_magic.proofs.choose.Goals as goal
 
 -- the multiplier of a block is all that its choice looks at

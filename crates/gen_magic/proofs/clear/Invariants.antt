@@ -1,12 +1,8 @@
 -- `gen_magic::clear` meets its contract: after i turns the first i slots are 0.
-use borrow.Author.Rules.{rules}
-use Prim.Native.Nat.{ℕ, ◌≤◌, ◌-◌, zero-le}
-use mathlib.Core.Path.{◌≡◌, refl, ap, ◌∙◌}
-use mathlib.Core.List.{List, ◌++◌, append-nil}
-use native.Mathlib.Omega.{arith}
-use borrow.Author.Fill.{fill_none, fill_more}
-use lib.ListN.{length, replicate, drop, set, length-set}
-use lib.Seq.{drop-length}
+use Prim.Native.Nat.{◌≤◌, ◌-◌}
+use mathlib.Core.Path.{◌≡◌}
+use mathlib.Core.List.{◌++◌}
+use lib.ListN.{length, replicate, drop}
 use Rattle.gen_magic.proofs.clear.Given as goal
 
 abbrev pub invariant-loop-i : goal.invariant-loop-i

@@ -1,14 +1,11 @@
 -- `gen_magic::first_free` meets its contract: no place before i is free.
-use borrow.Author.Rules.{rules}
-use Prim.Native.Nat.{ℕ, ◌-◌, ◌≤◌, ◌<◌, zero-le}
-use mathlib.Core.Path.{◌≡◌, sym, ◌∙◌}
-use mathlib.Core.Bool.{false}
+use Prim.Native.Nat.{zero-le}
+use mathlib.Core.Path.{sym, ◌∙◌}
 use native.Mathlib.Nat.{not-suc-le-zero}
 use native.Mathlib.Omega.{arith}
 use borrow.Author.Count.{below_more}
 use Rattle.bits.proofs.Least.{least_is, least_none}
-use Rattle.packing.specs.Pack.{free, first_free}
-use Rattle.gen_magic.specs.Builds.{slots}
+use Rattle.packing.specs.Pack.{first_free}
 use Rattle.gen_magic.proofs.first_free.Goals as goal
 
 pub loop-i-init : goal.loop-i-init

@@ -9,7 +9,6 @@ use Rattle.blocks.specs.Real.{real}
 use Rattle.gen_magic.specs.declared.Build.{Build}
 use Rattle.gen_magic.specs.Builds.{slots, leaves, ended, of_one_length, from_lent}
 use Rattle.gen_magic.proofs.Answers.{kept, passed}
-use borrow.Author.Rules.{rules}
 use Rattle.gen_magic.proofs.gen_all_lent.Goals as goal
 
 pub returns-then-multipliers-ne128 : goal.returns-then-multipliers-ne128

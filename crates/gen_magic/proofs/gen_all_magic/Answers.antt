@@ -10,7 +10,6 @@ use Rattle.blocks.specs.Real.{real}
 use Rattle.gen_magic.specs.declared.Build.{Build}
 use Rattle.gen_magic.specs.Builds.{leaves, ended, of_one_length, from_seed}
 use Rattle.gen_magic.proofs.Answers.{kept, passed}
-use borrow.Author.Rules.{rules}
 use Rattle.gen_magic.proofs.gen_all_magic.Goals as goal
 
 pub returns-then-budget-gt16777216 : goal.returns-then-budget-gt16777216

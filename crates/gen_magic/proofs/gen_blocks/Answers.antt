@@ -1,9 +1,8 @@
 -- `gen_magic::gen_blocks` meets its contract: before each turn the code's values stand for the run's state.
-use Prim.Native.Nat.{ℕ, ◌+◌, ◌-◌, ◌≤◌, ◌<◌, max, zero-le}
+use Prim.Native.Nat.{ℕ, ◌+◌, ◌≤◌, ◌<◌, max, zero-le}
 use mathlib.Core.Path.{sym, ap, ap₂, ◌∙◌, subst}
 use native.Mathlib.Nat.{le_trans, le-add_right}
 use native.Mathlib.Omega.{arith}
-use borrow.Author.Rules.{rules}
 use mathlib.Core.List.{List}
 use lib.ListN.{length, replicate}
 use Rattle.packing.specs.declared.Taken.{Taken}

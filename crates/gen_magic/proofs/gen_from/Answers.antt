@@ -4,7 +4,6 @@ use mathlib.Core.Path.{sym, ap, ◌∙◌}
 use lib.ListN.{replicate}
 use Rattle.gen_magic.specs.Builds.{ended}
 use Rattle.gen_magic.specs.Turn.{built}
-use borrow.Author.Rules.{rules}
 use Rattle.gen_magic.proofs.gen_from.Goals as goal
 
 pub gen_blocks-requires : goal.gen_blocks-requires

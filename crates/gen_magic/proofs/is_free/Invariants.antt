@@ -1,15 +1,8 @@
 -- `gen_magic::is_free` meets its contract: the marks tested so far share no bit with the rays.
-use borrow.Author.Rules.{rules}
-use Prim.Native.Nat.{ℕ, ◌+◌, ◌-◌, ◌≤◌, ◌<◌, zero-le}
-use mathlib.Core.Path.{◌≡◌, sym, ap, ◌∙◌}
-use native.Mathlib.Nat.{not-suc-le-zero}
-use native.Mathlib.Omega.{arith}
-use borrow.Author.Count.{below_more}
-use borrow.Author.Tests.{eq-eqb, ne_eqb}
+use Prim.Native.Nat.{ℕ, ◌+◌, ◌-◌, ◌≤◌, ◌<◌}
+use mathlib.Core.Path.{◌≡◌}
 use lib.Bits.{bit_and}
 use lib.ListN.{get_or}
-use Rattle.bits.proofs.Every.{every_holds, every_fails}
-use Rattle.packing.specs.Pack.{free}
 use Rattle.gen_magic.proofs.is_free.Given as goal
 
 abbrev pub invariant-loop-j : goal.invariant-loop-j

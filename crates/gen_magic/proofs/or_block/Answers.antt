@@ -1,10 +1,9 @@
 -- `gen_magic::or_block` meets its contract: after i turns the first i subsets are ORed in.
-use borrow.Author.Rules.{rules}
-use Prim.Native.Nat.{ℕ, ◌*◌, ◌/◌, ◌%◌, ◌^◌, ◌-◌, ◌≤◌, ◌<◌, zero-le}
+use Prim.Native.Nat.{ℕ, ◌*◌, ◌/◌, ◌%◌, ◌^◌, ◌≤◌, ◌<◌, zero-le}
 use mathlib.Core.Path.{◌≡◌, refl, sym, ap, ap₂, ◌∙◌, subst}
 use native.Mathlib.Nat.{lt_of_lt_of_le, le_antisymm}
 use native.Mathlib.Omega.{arith}
-use lib.ListN.{length, length-set}
+use lib.ListN.{length-set}
 use Rattle.board.specs.Board.{attack}
 use Rattle.board.specs.Blocks.{kind_of, square_of, shift_of, subset}
 use Rattle.board.proofs.Blocks.{kind_lt, square_lt}

@@ -1,7 +1,6 @@
 -- `gen_magic::record_of` meets its contract.
 use Prim.Native.Nat.{ℕ}
 use mathlib.Core.Path.{ap₂}
-use borrow.Author.Rules.{rules}
 use Rattle.gen_magic.proofs.record_of.Goals as goal
 
 pub returns : goal.returns

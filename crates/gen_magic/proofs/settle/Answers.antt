@@ -1,13 +1,12 @@
 -- `gen_magic::settle` meets its contract.
 use Prim.Native.Nat.{ℕ, ◌≤◌}
-use mathlib.Core.Path.{◌≡◌, sym, ◌∙◌, subst}
+use mathlib.Core.Path.{◌≡◌, sym, subst}
 use native.Mathlib.Omega.{arith}
 use Rattle.board.specs.Blocks.{kind_of, square_of, size_of}
 use Rattle.board.proofs.Blocks.{kind_lt, square_lt}
 use Rattle.board.proofs.Sizes.{size_high}
 use Rattle.gen_magic.specs.Builds.{slots}
 use Rattle.gen_magic.proofs.Turns.{first_low, no_room, chosen, none_chosen}
-use borrow.Author.Rules.{rules}
 use Rattle.gen_magic.proofs.settle.Goals as goal
 
 size_small : (b size : ℕ) → size ≡ size_of (kind_of b) (square_of b) → size ≤ 4096

@@ -5,7 +5,6 @@ use Prim.Native.Nat.{ℕ}
 use Rattle.refusal.specs.Paper.{number_of, values_of}
 use Rattle.gen_magic.specs.declared.Build.{Build}
 use Rattle.gen_magic.specs.Builds.{leaves, empty}
-use borrow.Author.Rules.{rules}
 use Rattle.gen_magic.proofs.stop.Goals as goal
 
 pub returns : goal.returns

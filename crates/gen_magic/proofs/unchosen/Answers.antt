@@ -2,7 +2,6 @@
 use mathlib.Core.Path.{sym, ap}
 use Rattle.gen_magic.specs.declared.Source.{Source}
 use Rattle.gen_magic.specs.Turn.{why_of}
-use borrow.Author.Rules.{rules}
 use Rattle.gen_magic.proofs.unchosen.Goals as goal
 
 pub returns-in-Seed : goal.returns-in-Seed

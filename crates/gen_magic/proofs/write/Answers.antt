@@ -6,7 +6,6 @@ use lib.ListN.{length}
 use Rattle.blocks.specs.Real.{real}
 use Rattle.blocks.proofs.Real.{index_lt}
 use Rattle.gen_magic.proofs.Loans.{part_ored}
-use borrow.Author.Rules.{rules}
 use Rattle.gen_magic.proofs.write.Goals as goal
 
 pub returns : goal.returns

@@ -1,5 +1,4 @@
 -- `hex_digits::digit` meets its contract, by the tests that led to each answer.
-use borrow.Author.Rules.{rules}
 use borrow.Author.Tests.{lt-ltb, le-ltb, le-leb, lt-leb}
 use Rattle.hex_digits.specs.Hex.{digit_of}
 use Rattle.hex_digits.proofs.digit.Goals as goal

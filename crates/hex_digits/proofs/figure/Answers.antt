@@ -1,5 +1,4 @@
 -- `hex_digits::figure` meets its contract, by the test.
-use borrow.Author.Rules.{rules}
 use borrow.Author.Tests.{lt-ltb, le-ltb}
 use Rattle.hex_digits.specs.Hex.{figure_of}
 use Rattle.hex_digits.proofs.figure.Goals as goal

@@ -1,10 +1,9 @@
 -- `hex_digits::read` meets its contract: before turn i, the number is what i digits spell, and so below 16 ^ i.
-use Prim.Native.Nat.{◌-◌, ◌^◌, ◌≤◌, ◌<◌}
+use Prim.Native.Nat.{◌<◌}
 use mathlib.Core.Path.{◌≡◌, sym, ap, ◌∙◌}
 use native.Mathlib.Numerals.{add-one}
 use native.Mathlib.Omega.{arith}
-use lib.ListN.{drop, get_or, drop_of_length-le}
-use borrow.Author.Rules.{rules}
+use lib.ListN.{get_or, drop_of_length-le}
 use borrow.Author.Tests.{eq-eqb, ne_eqb}
 use Rattle.hex_digits.specs.declared.Value.TheVariants.{Is}
 use Rattle.hex_digits.specs.Hex.{digit_of, read_after, read_word}

@@ -1,13 +1,9 @@
 -- `hex_digits::write` meets its contract: with k digits left to write, those of the rest stand before the ones that were written.
-use Prim.Native.Nat.{ℕ, ◌-◌, ◌/◌, ◌≤◌}
-use mathlib.Core.Path.{◌≡◌, sym, ap, ◌∙◌}
+use Prim.Native.Nat.{◌≤◌}
+use mathlib.Core.Path.{◌≡◌}
 use mathlib.Core.List.{◌++◌}
-use native.Mathlib.Omega.{arith}
-use lib.ListN.{length, drop, set, length-set}
-use borrow.Author.Rules.{rules}
-use borrow.Author.Tests.{le-leb, lt-leb}
-use Rattle.hex_digits.specs.Hex.{digits, write_word}
-use Rattle.hex_digits.proofs.Laws.{write_next}
+use lib.ListN.{length, drop}
+use Rattle.hex_digits.specs.Hex.{digits}
 use Rattle.hex_digits.proofs.write.Given as goal
 
 abbrev pub invariant-loop-k : goal.invariant-loop-k

@@ -7,8 +7,7 @@ use Rattle.board.specs.Blocks.{kind_of, square_of}
 use Rattle.board.proofs.Blocks.{kind_lt, square_lt}
 use Rattle.board.proofs.Sizes.{size_high}
 use Rattle.gen_magic.specs.Builds.{record_in}
-use Rattle.magic.specs.Audit.{checked, reach_of, audit_says}
-use borrow.Author.Rules.{rules}
+use Rattle.magic.specs.Audit.{reach_of, audit_says}
 use Rattle.magic.proofs.audit.Goals as goal
 
 pub overflow_add-result : goal.overflow_add-result

@@ -1,12 +1,9 @@
 -- `magic::check_blocks` meets its contract: the blocks before this one hold.
-use borrow.Author.Rules.{rules}
-use Prim.Native.Nat.{ℕ, ◌-◌, ◌≤◌, zero-le}
-use mathlib.Core.Path.{◌≡◌, sym, ap, ◌∙◌}
-use native.Mathlib.Omega.{arith}
+use Prim.Native.Nat.{◌-◌, ◌≤◌}
+use mathlib.Core.Path.{◌≡◌}
 use Rattle.refusal.specs.Paper.{gives}
 use Rattle.gen_magic.specs.Builds.{record_in}
-use Rattle.magic.specs.Audit.{in_turn, block_says, blocks_say, checked}
-use Rattle.magic.proofs.Audits.{turn_none, turn_more, turn_stops}
+use Rattle.magic.specs.Audit.{in_turn, block_says}
 use Rattle.magic.proofs.check_blocks.Given as goal
 
 abbrev pub invariant-loop-block : goal.invariant-loop-block

@@ -2,7 +2,6 @@
 use mathlib.Core.Path.{sym, ap, ◌∙◌}
 use Rattle.refusal.specs.Paper.{said}
 use Rattle.magic.proofs.Audits.{subset_refused, subset_right, subset_wrong}
-use borrow.Author.Rules.{rules}
 use Rattle.magic.proofs.check_subset.Goals as goal
 
 pub returns-in_default : goal.returns-in_default

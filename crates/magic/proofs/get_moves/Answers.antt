@@ -1,10 +1,8 @@
 -- `magic::get_moves` meets its contract, by the block.
-use mathlib.Core.Path.{sym, ap, ◌∙◌}
-use Rattle.refusal.specs.Paper.{said}
+use mathlib.Core.Path.{◌∙◌}
 use Rattle.board.specs.Blocks.{block_of}
 use Rattle.board.proofs.Blocks.{by_block, refused_block}
 use Rattle.magic.specs.LookUp.{look_up}
-use borrow.Author.Rules.{rules}
 use Rattle.magic.proofs.get_moves.Goals as goal
 
 pub returns-in-Gives : goal.returns-in-Gives

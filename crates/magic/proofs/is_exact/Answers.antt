@@ -4,7 +4,6 @@ use mathlib.Core.Path.{ap₂}
 use mathlib.Core.Bool.{◌&&◌}
 use lib.Dec.{eqb}
 use Rattle.magic.specs.Audit.{exact}
-use borrow.Author.Rules.{rules}
 use Rattle.magic.proofs.is_exact.Goals as goal
 
 pub returns : goal.returns

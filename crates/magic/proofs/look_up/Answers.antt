@@ -2,7 +2,6 @@
 use Prim.Native.Nat.{ℕ}
 use mathlib.Core.Path.{ap, ◌∙◌}
 use Rattle.magic.specs.LookUp.{look_with}
-use borrow.Author.Rules.{rules}
 use Rattle.magic.proofs.look_up.Goals as goal
 
 pub returns : goal.returns

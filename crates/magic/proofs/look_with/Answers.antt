@@ -5,7 +5,6 @@ use lib.Bits.{bit_and}
 use lib.ListN.{length, get_or}
 use Rattle.refusal.specs.Paper.{gives}
 use Rattle.magic.proofs.LookUps.{in_range, look_8, look_7, look_gives}
-use borrow.Author.Rules.{rules}
 use Rattle.magic.proofs.look_with.Goals as goal
 
 pub returns-then-magic : goal.returns-then-magic

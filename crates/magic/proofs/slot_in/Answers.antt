@@ -6,7 +6,6 @@ use native.Mathlib.Omega.{arith}
 use lib.Pow.{pow_pos}
 use Rattle.bits.proofs.Digit.{shr_within}
 use Rattle.magic.specs.LookUp.{slot_in}
-use borrow.Author.Rules.{rules}
 use Rattle.magic.proofs.slot_in.Goals as goal
 
 pub overflow_add-result : goal.overflow_add-result

@@ -3,7 +3,6 @@ use Prim.Native.Nat.{ℕ}
 use mathlib.Core.Option.{Option}
 use mathlib.Core.Path.{◌≡◌, ap, ◌∙◌}
 use native.Mathlib.Omega.{arith}
-use borrow.Author.Rules.{rules}
 use Rattle.refusal.specs.Paper.{Said, gives}
 use Rattle.square.specs.Square.{on_square, up_of, down_of}
 use Rattle.board.specs.Walk.{step}

@@ -1,6 +1,5 @@
 -- `magic_helpers::bits_at` meets its contract.
 use mathlib.Core.Path.{sym, ap, ◌∙◌}
-use borrow.Author.Rules.{rules}
 use lib.Count.{ones}
 use Rattle.bits.proofs.Count.{count_ones}
 use Rattle.board.specs.Board.{mask}

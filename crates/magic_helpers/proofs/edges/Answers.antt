@@ -1,5 +1,4 @@
 -- `magic_helpers::edges` meets its contract, by the kind.
-use borrow.Author.Rules.{rules}
 use Rattle.magic_helpers.proofs.Masks.{edges_bishop, edges_rook}
 use Rattle.magic_helpers.proofs.edges.Goals as goal
 

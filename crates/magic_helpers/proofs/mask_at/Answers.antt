@@ -1,7 +1,6 @@
 -- `magic_helpers::mask_at` meets its contract.
 use Prim.Native.Nat.{ℕ, ◌-◌, ◌^◌}
 use mathlib.Core.Path.{ap₂, ◌∙◌}
-use borrow.Author.Rules.{rules}
 use lib.Bits.{bit_and}
 use Rattle.board.specs.Blocks.{kind_of, square_of}
 use Rattle.magic_helpers.proofs.Masks.{mask_is}

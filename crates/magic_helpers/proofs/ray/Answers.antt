@@ -1,13 +1,12 @@
 -- `magic_helpers::ray` meets its contract: what is gathered, and the walk from where the loop stands, make the whole.
-use Prim.Native.Nat.{ℕ, ◌-◌, ◌≤◌, ◌<◌}
-use mathlib.Core.Path.{◌≡◌, refl, sym, ap, ◌∙◌}
+use Prim.Native.Nat.{ℕ, ◌<◌}
+use mathlib.Core.Path.{◌≡◌, refl, sym}
 use mathlib.Core.Option.{some}
 use native.Mathlib.Omega.{arith}
-use borrow.Author.Rules.{rules}
-use lib.Bits.{bit_or, or_zero_l}
+use lib.Bits.{or_zero_l}
 use Rattle.refusal.specs.Paper.{gives}
 use Rattle.refusal.proofs.Said.{gives_same, gives_not}
-use Rattle.square.specs.Square.{on_square, stepped}
+use Rattle.square.specs.Square.{on_square}
 use Rattle.board.specs.Walk.{step, line, up_to}
 use Rattle.board.proofs.Lines.{step_low}
 use Rattle.magic_helpers.proofs.Along.{given_step, to_go, along_off, along_end, along_stop, along_on}

@@ -1,16 +1,9 @@
 -- `magic_helpers::ray` meets its contract: what is gathered, and the walk from where the loop stands, make the whole.
 use Prim.Native.Nat.{◌-◌, ◌≤◌, ◌<◌}
-use mathlib.Core.Path.{◌≡◌, refl, sym, ap, ◌∙◌}
-use mathlib.Core.Option.{some}
-use native.Mathlib.Omega.{arith}
-use borrow.Author.Rules.{rules}
-use lib.Bits.{bit_or, or_zero_l}
-use Rattle.refusal.specs.Paper.{gives}
-use Rattle.refusal.proofs.Said.{gives_same, gives_not}
-use Rattle.square.specs.Square.{stepped}
-use Rattle.board.specs.Walk.{step, line, up_to}
-use Rattle.board.proofs.Lines.{step_low}
-use Rattle.magic_helpers.proofs.Along.{given_step, to_go, along_off, along_end, along_stop, along_on}
+use mathlib.Core.Path.{◌≡◌}
+use lib.Bits.{bit_or}
+use Rattle.board.specs.Walk.{line, up_to}
+use Rattle.magic_helpers.proofs.Along.{to_go}
 use Rattle.magic_helpers.proofs.ray.Given as goal
 
 abbrev pub invariant-loop-n : goal.invariant-loop-n

@@ -2,7 +2,6 @@
 use Prim.Native.Nat.{ℕ, ◌-◌, ◌≤◌}
 use mathlib.Core.Path.{ap}
 use native.Mathlib.Omega.{arith}
-use borrow.Author.Rules.{rules}
 use Rattle.board.specs.Blocks.{kind_of, square_of, shift_of}
 use Rattle.board.proofs.Blocks.{kind_lt, square_lt}
 use Rattle.board.proofs.Sizes.{bits_high}

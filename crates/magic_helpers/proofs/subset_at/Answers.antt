@@ -1,6 +1,5 @@
 -- `magic_helpers::subset_at` meets its contract: a subset is a deposit in the mask.
 use mathlib.Core.Path.{sym, ap, ◌∙◌}
-use borrow.Author.Rules.{rules}
 use Rattle.bits.specs.Intel.{pdep}
 use Rattle.board.specs.Blocks.{kind_of, square_of}
 use Rattle.board.proofs.Subsets.{subset_deposit}

@@ -1,6 +1,5 @@
 -- `magic_helpers::then_vertical` meets its contract, by where the first step led.
 use mathlib.Core.Path.{sym, ap, ◌∙◌}
-use borrow.Author.Rules.{rules}
 use Rattle.square.specs.Square.{stepped}
 use Rattle.square.specs.declared.Step.{Step}
 use Rattle.magic_helpers.specs.Chain.{vertical_of, chain}

@@ -1,7 +1,6 @@
 -- `magic_helpers::vertical` meets its contract.
 use mathlib.Core.Bool.{Bool}
 use mathlib.Core.Path.{sym, ap, ◌∙◌}
-use borrow.Author.Rules.{rules}
 use Rattle.refusal.specs.Paper.{gives}
 use Rattle.square.specs.Square.{on_square}
 use Rattle.magic_helpers.specs.Chain.{vertical_of}

@@ -1,8 +1,7 @@
 -- `magic_helpers::walk` meets its contract: by the block that the kind and the square have, or their refusal.
 use Prim.Native.Nat.{ℕ}
-use mathlib.Core.Path.{sym, ap, ◌∙◌}
-use borrow.Author.Rules.{rules}
-use Rattle.refusal.specs.Paper.{gives, said}
+use mathlib.Core.Path.{ap, ◌∙◌}
+use Rattle.refusal.specs.Paper.{gives}
 use Rattle.board.specs.Board.{attack}
 use Rattle.board.specs.Blocks.{block_of}
 use Rattle.board.proofs.Blocks.{by_block, refused_block}

@@ -1,6 +1,5 @@
 -- `magic_helpers::walk_at` meets its contract: four directions joined, which is the attack set.
 use mathlib.Core.Path.{ap₂, ◌∙◌}
-use borrow.Author.Rules.{rules}
 use lib.Bits.{bit_or}
 use Rattle.board.specs.Walk.{walk}
 use Rattle.board.specs.Blocks.{kind_of, square_of}

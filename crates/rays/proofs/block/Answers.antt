@@ -1,6 +1,5 @@
 -- `rays::block` meets its contract, by the tests that led to each answer.
 use mathlib.Core.Path.{ap}
-use borrow.Author.Rules.{rules}
 use borrow.Author.Tests.{lt-ltb, le-ltb}
 use Rattle.refusal.specs.Paper.{gives}
 use Rattle.board.proofs.Blocks.{block_rook, block_bishop}

@@ -1,6 +1,5 @@
 -- `rays::rays_at` meets its contract: the listed rays are the rays.
 use mathlib.Core.Path.{◌∙◌}
-use borrow.Author.Rules.{rules}
 use Rattle.rays.proofs.Table.{listed_rays}
 use Rattle.rays.proofs.rays_at.Goals as goal
 

@@ -1,9 +1,8 @@
 -- `slider::all_rays` meets its contract: the rays of the blocks before this one are listed.
-use Prim.Native.Nat.{ℕ, ◌-◌, ◌≤◌, zero-le}
+use Prim.Native.Nat.{ℕ, zero-le}
 use mathlib.Core.Path.{◌≡◌, refl, sym, ap, ◌∙◌}
 use native.Mathlib.Omega.{arith}
-use borrow.Author.Rules.{rules}
-use lib.ListN.{length, take, length-set}
+use lib.ListN.{take, length-set}
 use Rattle.bits.specs.Shown.{shown}
 use Rattle.bits.proofs.Shown.{shown_store, shown_whole}
 use Rattle.board.specs.Board.{rays}

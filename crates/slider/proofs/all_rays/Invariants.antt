@@ -1,11 +1,8 @@
 -- `slider::all_rays` meets its contract: the rays of the blocks before this one are listed.
-use Prim.Native.Nat.{ℕ, ◌-◌, ◌≤◌, zero-le}
-use mathlib.Core.Path.{◌≡◌, refl, sym, ap, ◌∙◌}
-use native.Mathlib.Omega.{arith}
-use borrow.Author.Rules.{rules}
-use lib.ListN.{length, take, length-set}
+use Prim.Native.Nat.{ℕ, ◌-◌, ◌≤◌}
+use mathlib.Core.Path.{◌≡◌}
+use lib.ListN.{length, take}
 use Rattle.bits.specs.Shown.{shown}
-use Rattle.bits.proofs.Shown.{shown_store, shown_whole}
 use Rattle.board.specs.Board.{rays}
 use Rattle.board.specs.Blocks.{kind_of, square_of}
 use Rattle.slider.proofs.all_rays.Given as goal

@@ -4,7 +4,6 @@ use mathlib.Core.Path.{sym, ap, ◌∙◌}
 use Rattle.refusal.specs.declared.Answer.{Answer}
 use Rattle.refusal.specs.Paper.{said}
 use Rattle.slider.specs.Flat.{answer_of}
-use borrow.Author.Rules.{rules}
 use Rattle.slider.proofs.answer.Goals as goal
 
 pub returns-in-Gives : goal.returns-in-Gives

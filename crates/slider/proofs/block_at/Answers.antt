@@ -5,7 +5,6 @@ use native.Mathlib.Omega.{arith}
 use native.Mathlib.Decide.{ℕ_discrete}
 use Rattle.board.specs.Blocks.{block_of}
 use Rattle.board.proofs.Blocks.{block_rook, block_bishop}
-use borrow.Author.Rules.{rules}
 use Rattle.slider.proofs.block_at.Goals as goal
 
 pub returns : goal.returns

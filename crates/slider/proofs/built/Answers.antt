@@ -1,7 +1,6 @@
 -- `slider::built` meets its contract.
 use Prim.Native.Nat.{ℕ}
 use mathlib.Core.Path.{ap₂}
-use borrow.Author.Rules.{rules}
 use Rattle.slider.proofs.built.Goals as goal
 
 pub returns : goal.returns

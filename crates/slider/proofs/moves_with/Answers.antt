@@ -1,12 +1,10 @@
 -- `slider::moves_with` meets its contract, by the block.
 use Prim.Native.Nat.{ℕ}
-use mathlib.Core.Path.{sym, ap, ◌∙◌}
-use Rattle.refusal.specs.Paper.{said}
+use mathlib.Core.Path.{ap, ◌∙◌}
 use Rattle.board.specs.Blocks.{block_of}
 use Rattle.board.proofs.Blocks.{by_block, refused_block}
 use Rattle.magic.specs.LookUp.{look_with}
 use Rattle.slider.specs.Flat.{answer_of}
-use borrow.Author.Rules.{rules}
 use Rattle.slider.proofs.moves_with.Goals as goal
 
 pub returns-in-Gives : goal.returns-in-Gives

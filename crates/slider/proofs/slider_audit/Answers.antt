@@ -5,7 +5,6 @@ use Rattle.refusal.specs.declared.Answer.{Answer}
 use Rattle.refusal.specs.Paper.{said}
 use Rattle.slider.specs.declared.SliderVerdict.{SliderVerdict}
 use Rattle.slider.specs.Flat.{verdict_of}
-use borrow.Author.Rules.{rules}
 use Rattle.slider.proofs.slider_audit.Goals as goal
 
 -- number, block and subset of a refusal

@@ -2,7 +2,6 @@
 use mathlib.Core.Path.{ap, ◌∙◌}
 use Rattle.slider.specs.declared.SliderBuild.{SliderBuild}
 use Rattle.slider.specs.Flat.{handed, handed_of}
-use borrow.Author.Rules.{rules}
 use Rattle.slider.proofs.slider_build.Goals as goal
 
 pub returns : goal.returns

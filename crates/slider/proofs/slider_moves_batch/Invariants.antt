@@ -1,15 +1,7 @@
 -- `slider::slider_moves_batch` meets its contract: the first i queries are answered.
-use Prim.Native.Nat.{ℕ, ◌-◌, min}
-use mathlib.Core.Path.{refl, ap, ap₂, ◌∙◌}
-use native.Mathlib.Omega.{arith}
-use borrow.Author.Rules.{rules}
-use lib.ListN.{length, get_or}
-use Rattle.board.proofs.Blocks.{block_cong}
-use Rattle.gen_magic.specs.Builds.{record_in}
-use Rattle.magic.specs.LookUp.{look_with}
-use Rattle.slider.specs.Flat.{answer_of}
+use Prim.Native.Nat.{◌-◌}
 use Rattle.slider.specs.Batch.{moves_asked}
-use Rattle.slider.proofs.Batches.{Going, going_none, going_more, going_done, listed_rays}
+use Rattle.slider.proofs.Batches.{Going}
 use Rattle.slider.proofs.slider_moves_batch.Given as goal
 
 abbrev pub invariant-loop-i : goal.invariant-loop-i

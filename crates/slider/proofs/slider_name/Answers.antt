@@ -4,7 +4,6 @@ use mathlib.Core.Path.{sym, ap, ◌∙◌}
 use Rattle.square.specs.declared.Name.{Name}
 use Rattle.square.specs.Square.{named}
 use Rattle.slider.specs.Flat.{name_of}
-use borrow.Author.Rules.{rules}
 use Rattle.slider.proofs.slider_name.Goals as goal
 
 pub returns-in-Bytes : goal.returns-in-Bytes

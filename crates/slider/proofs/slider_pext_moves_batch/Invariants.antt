@@ -1,11 +1,7 @@
 -- `slider::slider_pext_moves_batch` meets its contract: the first i queries are answered.
-use Prim.Native.Nat.{ℕ, ◌-◌, min}
-use mathlib.Core.Path.{refl, ap, ap₂, ◌∙◌}
-use native.Mathlib.Omega.{arith}
-use borrow.Author.Rules.{rules}
-use lib.ListN.{length}
+use Prim.Native.Nat.{◌-◌}
 use Rattle.slider.specs.Batch.{pext_asked}
-use Rattle.slider.proofs.Batches.{Going, going_none, going_more, going_done}
+use Rattle.slider.proofs.Batches.{Going}
 use Rattle.slider.proofs.slider_pext_moves_batch.Given as goal
 
 abbrev pub invariant-loop-i : goal.invariant-loop-i

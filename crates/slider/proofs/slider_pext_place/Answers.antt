@@ -4,7 +4,6 @@ use mathlib.Core.Path.{sym, ap, ◌∙◌}
 use Rattle.bmis.specs.declared.Place.{Place}
 use Rattle.bmis.specs.Bmis.{placed}
 use Rattle.slider.specs.Flat.{place_of}
-use borrow.Author.Rules.{rules}
 use Rattle.slider.proofs.slider_pext_place.Goals as goal
 
 pub returns-in-At : goal.returns-in-At

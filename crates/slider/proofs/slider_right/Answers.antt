@@ -1,7 +1,6 @@
 -- `slider::slider_right` meets its contract.
 use mathlib.Core.Path.{ap, ◌∙◌}
 use Rattle.slider.specs.Flat.{step_of}
-use borrow.Author.Rules.{rules}
 use Rattle.slider.proofs.slider_right.Goals as goal
 
 pub returns : goal.returns

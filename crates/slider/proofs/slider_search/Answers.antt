@@ -4,7 +4,6 @@ use mathlib.Core.Path.{sym, ap, ap₂, ◌∙◌}
 use Rattle.candidates.specs.declared.Outcome.{Outcome}
 use Rattle.candidates.specs.OneBlock.{searched}
 use Rattle.slider.specs.Flat.{found_of}
-use borrow.Author.Rules.{rules}
 use Rattle.slider.proofs.slider_search.Goals as goal
 
 pub returns-in-Found : goal.returns-in-Found

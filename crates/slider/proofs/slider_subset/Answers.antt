@@ -1,7 +1,6 @@
 -- `slider::slider_subset` meets its contract.
 use mathlib.Core.Path.{ap, ◌∙◌}
 use Rattle.slider.specs.Flat.{answer_of}
-use borrow.Author.Rules.{rules}
 use Rattle.slider.proofs.slider_subset.Goals as goal
 
 pub returns : goal.returns

@@ -1,11 +1,9 @@
 -- `slider::slider_walk_batch` meets its contract: the first i queries are answered.
-use Prim.Native.Nat.{ℕ, ◌-◌, min}
+use Prim.Native.Nat.{ℕ, min}
 use mathlib.Core.Path.{refl, ap, ap₂, ◌∙◌}
 use native.Mathlib.Omega.{arith}
-use borrow.Author.Rules.{rules}
 use lib.ListN.{length}
-use Rattle.slider.specs.Batch.{walk_asked}
-use Rattle.slider.proofs.Batches.{Going, going_none, going_more, going_done}
+use Rattle.slider.proofs.Batches.{going_none, going_more, going_done}
 use Rattle.slider.proofs.slider_walk_batch.Goals as goal
 
 pub loop-i-init : goal.loop-i-init

@@ -4,7 +4,6 @@ use mathlib.Core.Path.{sym, ap, ◌∙◌}
 use Rattle.square.specs.declared.Step.{Step}
 use Rattle.square.specs.Square.{stepped}
 use Rattle.slider.specs.Flat.{step_of}
-use borrow.Author.Rules.{rules}
 use Rattle.slider.proofs.step.Goals as goal
 
 pub returns-in-To : goal.returns-in-To

@@ -1,5 +1,5 @@
 -- `splitmix::mix` meets its contract.
-use Rattle.std.proofs.Common.{ℕ, ◌*◌, ◌%◌, ◌^◌, ap, ◌∙◌, rules}
+use Rattle.std.proofs.Common.{ℕ, ◌*◌, ◌%◌, ◌^◌, ap, ◌∙◌}
 use Rattle.splitmix.specs.SplitMix.{mixed, folded}
 use Rattle.splitmix.proofs.mix.Goals as goal
 

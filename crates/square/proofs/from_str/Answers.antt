@@ -1,5 +1,4 @@
 -- `square::from_str` meets its contract, by the tests that led to each answer.
-use borrow.Author.Rules.{rules}
 use borrow.Author.Tests.{lt-ltb, le-ltb}
 use Rattle.square.proofs.from_str.Goals as goal
 

@@ -1,5 +1,4 @@
 -- `square::get_file` meets its contract, by the test that led to each answer.
-use borrow.Author.Rules.{rules}
 use borrow.Author.Tests.{lt-ltb, le-ltb}
 use Rattle.square.proofs.get_file.Goals as goal
 

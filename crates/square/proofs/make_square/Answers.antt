@@ -1,5 +1,4 @@
 -- `square::make_square` meets its contract, by the tests that led to each answer.
-use borrow.Author.Rules.{rules}
 use borrow.Author.Tests.{lt-ltb, le-ltb}
 use Rattle.square.proofs.make_square.Goals as goal
 

@@ -1,6 +1,5 @@
 -- `tables::rays_unlisted` meets its contract: past the list there is nothing.
 use mathlib.Core.Path.{sym}
-use borrow.Author.Rules.{rules}
 use lib.ListN.{get_or-eq_default}
 use Rattle.tables.specs.Rays.{rays}
 use Rattle.tables.proofs.rays_unlisted.Goals as goal

@@ -1,6 +1,5 @@
 -- `tables::start_unlisted` meets its contract: past the list there is nothing.
 use mathlib.Core.Path.{sym}
-use borrow.Author.Rules.{rules}
 use lib.ListN.{get_or-eq_default}
 use Rattle.tables.specs.Starts.{starts}
 use Rattle.tables.proofs.start_unlisted.Goals as goal

@@ -1,5 +1,4 @@
 -- `splitmix::Generator::draw` meets its contract.
-use Rattle.std.proofs.Common.{rules}
 use Rattle.splitmix.specs.SplitMix.{after, output, candidate_of}
 use Rattle.splitmix.proofs.Generator.draw.Goals as goal
 
