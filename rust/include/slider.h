@@ -91,12 +91,12 @@ typedef struct SliderBuild {
     uint64_t number;
     uint64_t block;
     uint64_t used;
-    SliderRecord records[SLIDER_BLOCKS];
-    uint64_t counts[SLIDER_BLOCKS];
+    SliderRecord records[128];
+    uint64_t counts[128];
 } SliderBuild;
 
 typedef struct SliderRecords {
-    SliderRecord records[SLIDER_BLOCKS];
+    SliderRecord records[128];
 } SliderRecords;
 
 /* where a block lies in a PEXT table */
