@@ -34,7 +34,7 @@ fn what_came_later() {
     for option in ["build .. --origin", "build .. --out FILE", "build .. --json", "audit .. --seed N", "audit .. --json"] {
         assert!(more.out.contains(&format!("  slider {option}")), "{option}");
     }
-    for words in ["-V 1", "version extra"] {
+    for words in ["-V 1", "version extra", "more extra"] {
         slider(words).is_bad(&["is one argument too many"]);
     }
 }

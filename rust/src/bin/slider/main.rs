@@ -130,7 +130,10 @@ fn run(mut words: Vec<OsString>) -> Done {
     match first.to_str() {
         Some("--help" | "-h" | "help") => output::put(HELP),
         Some("--version") => output::put(concat!("slider ", env!("CARGO_PKG_VERSION"), "\n")),
-        Some("more") => output::put(MORE),
+        Some("more") => match words.next() {
+            None => output::put(MORE),
+            Some(word) => Err(format!("{} is one argument too many", quoted(&word)).into()),
+        },
         Some("-V") => of(&version::COMMAND, words),
         _ => of(command(&first)?, words),
     }
