@@ -12,7 +12,7 @@ pub const ALL_SLOTS: usize = 107_648;
 /// The largest budget that a build or a search takes.
 pub const MAX_BUDGET: u64 = 16_777_216;
 /// A stack on which every call of this package runs, in bytes: a thread that builds or searches should have so much. Measured, a build
-/// from a seed needs 228 KiB, one from multipliers 132 KiB, a search 104 KiB. A thread of the standard library has 2 MiB unless it is
+/// from a seed needs 240 KiB, one from multipliers 140 KiB, a search 104 KiB. A thread of the standard library has 2 MiB unless it is
 /// told otherwise.
 pub const STACK: usize = 512 * 1024;
 
@@ -123,8 +123,8 @@ pub(crate) fn looked_up(records: &[Record; BLOCKS], table: &[u64], kind: Kind, s
 
 /// Many look-ups in one call, by any records and any table; slices and answers as in [`walk_batch`](crate::walk_batch).
 ///
-/// A call copies the records, 3 KiB, and lists the rays of all blocks before it answers: measured, 235 ns. Then a query takes half of what
-/// a call of [`moves`] takes, so a batch pays from some 80 queries on (docs/SPEED.md).
+/// A call copies the records, 3 KiB, and lists the rays of all blocks before it answers: 235 ns, measured with an older kit. Then a query
+/// takes half of what a call of [`moves`] takes, so a batch pays from some 80 queries on (docs/SPEED.md).
 pub fn moves_batch(
     records: &[Record; BLOCKS],
     table: &[u64],
