@@ -53,9 +53,10 @@ impl fmt::Display for Kind {
 /// The number of a block: bishop on s is s, rook on s is 64 + s.
 ///
 /// ```
-/// use slider::{block, Kind, Square};
+/// use slider::{block, Kind};
 ///
-/// assert_eq!(block(Kind::Rook, Square::A1), 64);
+/// assert_eq!(block(Kind::Rook, "a1".parse()?), 64);
+/// # Ok::<(), slider::Refusal>(())
 /// ```
 #[inline]
 pub fn block(kind: Kind, square: Square) -> usize {

@@ -102,8 +102,9 @@ impl Square {
     /// ```
     /// use slider::Square;
     ///
-    /// assert_eq!(Square::G1.right(), Some(Square::H1));
-    /// assert_eq!(Square::H1.right(), None);
+    /// let g1 = Square::try_from(6).unwrap();
+    /// assert_eq!(g1.right().unwrap().to_string(), "h1");
+    /// assert_eq!(g1.right().unwrap().right(), None);
     /// ```
     pub fn right(self) -> Option<Square> {
         to(ffi::right(self.0))
