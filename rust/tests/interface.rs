@@ -1,4 +1,5 @@
 //! What programs that use this package are compiled against: signatures, fields, cases. None of it may change or go.
+#![allow(clippy::type_complexity)] // a signature is what it is
 
 use slider::*;
 use std::fmt::{Debug, Display};
