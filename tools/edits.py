@@ -13,23 +13,23 @@ listed = top / "docs" / "EDITS.md"
 head = """# Must-fail edits
 
 Each changes a line of code or of a definition (two lines where the second says `and`), keeps the shape of the rest, and must be
-refused by the prover: `rt ci` tries all of them. What each tries stands first in its file, `crates/CRATE/must-fail/EDIT.edit`.
-Written by tools/edits.py.
+refused by the prover: `rt ci` tries all of them, `rt must-fail CRATE` those of a crate. What each tries stands first in its file,
+`crates/CRATE/must-fail/EDIT.edit`. Written by tools/edits.py.
 """
 
 
 def fields(path):
-    """What an edit tries, and its changes: file, old, new."""
-    tries, changes = [], []
+    """What an edit tries, and its changes: file, old, new. A file may have several pairs of old and new."""
+    tries, changes, name, old = [], [], "", ""
     for line in path.read_text().splitlines():
         if line.startswith("#"):
             tries.append(line.lstrip("# "))
-        elif line:
-            key, value = line.split(": ", 1)
-            if key == "file":
-                changes.append([value])
-            else:
-                changes[-1].append(value)
+        elif line.startswith("file: "):
+            name = line[len("file: "):].strip()
+        elif line.startswith("old: "):
+            old = line[len("old: "):]
+        elif line.startswith("new:"):
+            changes.append([name, old, line[len("new:"):]])
     return " ".join(tries), changes
 
 
@@ -39,7 +39,8 @@ def code(text):
 
 
 def text():
-    crates = [line.split(":")[0] for line in (top / "crates.txt").read_text().splitlines() if ":" in line]
+    rows = [line.split("#")[0] for line in (top / "crates.txt").read_text().splitlines()]
+    crates = [row.split(":")[0].split()[0] for row in rows if ":" in row]  # a static library has a word after its name
     out, count = [], 0
     for crate in crates:
         edits = sorted((top / "crates" / crate / "must-fail").glob("*.edit"))

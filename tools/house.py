@@ -1,9 +1,9 @@
 #!/usr/bin/env python3
 """For each crate: lines of code, definitions and proofs, must-fail edits; with `time`, what `rt check` takes.
 
-house.py         counts lines that are neither empty nor comments; a contract (`requires`, `ensures`) counts as a definition
+house.py         counts lines that are neither empty nor comments nor `#![..]`; a contract (`requires`, `ensures`) counts as a definition
 house.py time    also proves each crate in the order of crates.txt: seconds of wall clock, and the largest process in MiB. Begin with
-                 no folder target, so that nothing is remembered
+                 no folder out in any crate, here and in other copies on the machine, so that nothing is remembered
 """
 import pathlib
 import subprocess
@@ -19,7 +19,7 @@ def lines(paths, comment):
 
 def counts(crate):
     folder = top / "crates" / crate
-    source = lines(sorted((folder / "src").glob("*.rt")), "//")
+    source = [line for line in lines(sorted((folder / "src").glob("*.rt")), "//") if not line.startswith("#![")]
     contract = [line for line in source if line.startswith(("requires", "ensures", "ghost use"))]
     specs = lines((folder / "specs").rglob("*.antt"), "--")
     proofs = lines((folder / "proofs").rglob("*.antt"), "--")
@@ -28,22 +28,24 @@ def counts(crate):
 
 
 def checked(crate):
-    """Seconds and MiB of `rt check CRATE`, by a process of its own, so that the peak is this crate's."""
+    """Seconds and MiB of `rt check` in the crate's folder, by a process of its own, so that the peak is this crate's."""
     program = (
         "import resource, subprocess, sys, time; t = time.time(); "
-        f"s = subprocess.run(['rt', 'check', {crate!r}], stdout=subprocess.DEVNULL, stderr=subprocess.DEVNULL).returncode; "
+        "s = subprocess.run(['rt', 'check'], stdout=subprocess.DEVNULL, stderr=subprocess.DEVNULL).returncode; "
         "print(round(time.time() - t), resource.getrusage(resource.RUSAGE_CHILDREN).ru_maxrss // 1024, s)"
     )
-    out = subprocess.run([sys.executable, "-c", program], cwd=top, capture_output=True, text=True).stdout.split()
+    folder = top / "crates" / crate
+    out = subprocess.run([sys.executable, "-c", program], cwd=folder, capture_output=True, text=True).stdout.split()
     if out[2] != "0":
-        sys.exit(f"rt check {crate} failed")
+        sys.exit(f"rt check in crates/{crate} failed")
     return out[0], out[1]
 
 
 timed = sys.argv[1:] == ["time"]
 if sys.argv[1:] and not timed:
     sys.exit(__doc__)
-crates = [line.split(":")[0] for line in (top / "crates.txt").read_text().splitlines() if ":" in line]
+rows = [line.split("#")[0] for line in (top / "crates.txt").read_text().splitlines()]
+crates = [row.split(":")[0].split()[0] for row in rows if ":" in row]  # a static library has a word after its name
 print("| crate | code | definitions | proofs | proofs / code | edits |" + (" seconds | MiB |" if timed else ""))
 print("|---|---|---|---|---|---|" + ("---|---|" if timed else ""))
 total = [0] * 4

@@ -5,11 +5,11 @@ fresh() {
   [ -f "$1" ] && [ -z "$(find "$top/crates" "$top/crates.txt" -name out -prune -o -type f -newer "$1" -print | head -n 1)" ]
 }
 
-# prove FILE CRATE COMMAND: `rt COMMAND` in the crate's folder, which writes out/ and FILE's name there; FILE is a copy. Standard error
-# gets rt's own lines and one for each crate, and the time every 20 s; target/rt.log gets all. FILE gets the time of the start, so that a
-# source that is edited meanwhile is newer.
+# prove FILE CRATE COMMAND [NAME]: `rt COMMAND` in the crate's folder, which writes NAME there in out/ (without it: FILE's own name); FILE is
+# a copy. Standard error gets rt's own lines and one for each crate, and the time every 20 s; target/rt.log gets all. FILE gets the time of
+# the start, so that a source that is edited meanwhile is newer.
 prove() {
-  file=$1 crate=$2 command=$3
+  file=$1 crate=$2 command=$3 made=${4:-$(basename "$1")}
   command -v rt > /dev/null || {
     echo "no rt here, and $file is missing or older than crates/: install the Rattle kit" >&2
     return 2
@@ -26,7 +26,7 @@ prove() {
   trap - INT TERM
   status=2
   if [ "$(tail -n 1 "$top/target/rt.log")" = "status 0" ]; then
-    cp -f "$top/crates/$crate/out/$(basename "$file")" "$file" && touch -r "$start" "$file" && status=0
+    cp -f "$top/crates/$crate/out/$made" "$file" && touch -r "$start" "$file" && status=0
   else
     echo "rt $command in crates/$crate failed: see $top/target/rt.log" >&2
   fi

@@ -19,8 +19,8 @@ struct Board {
 
 /// Who gives check: the rook movers that the king sees as a rook would, and the bishop movers that it sees as a bishop would.
 fn checkers(tables: &Tables, board: &Board) -> Bitboard {
-    let along_lines = tables.moves(Kind::Rook, board.king, board.occupied);
-    let along_diagonals = tables.moves(Kind::Bishop, board.king, board.occupied);
+    let along_lines = tables.attacks(Kind::Rook, board.king, board.occupied);
+    let along_diagonals = tables.attacks(Kind::Bishop, board.king, board.occupied);
     along_lines & board.rook_movers | along_diagonals & board.bishop_movers
 }
 
@@ -63,7 +63,7 @@ impl Sensors {
 fn main() -> Result<(), Error> {
     println!("{}", slider::IDENTITY);
     let begun = Instant::now();
-    let tables = Tables::build(42)?; // once; from here on nothing can be refused
+    let tables = Tables::try_build(42)?; // once; from here on nothing can be refused
     println!("tables from seed 42: {} slots, {:.2} s", tables.used(), begun.elapsed().as_secs_f64());
 
     let mut sensors = Sensors(1);
@@ -75,8 +75,9 @@ fn main() -> Result<(), Error> {
                 in_check += 1;
             }
             if round == 1 && number <= 3 {
-                let squares: Vec<Square> = from.into_iter().collect();
-                println!("\nboard {number}, king on {}, in check from {squares:?}\n{}", board.king, board.occupied);
+                let squares: Vec<String> = from.into_iter().map(|square| square.to_string()).collect();
+                println!("\nboard {number}, king on {}, in check from [{}]", board.king, squares.join(", "));
+                println!("{}", board.occupied);
             }
         }
     }
@@ -87,7 +88,6 @@ fn main() -> Result<(), Error> {
 #[cfg(test)]
 mod tests {
     use super::*;
-    use slider::walk;
 
     /// A look-out from the king sees exactly those that see the king.
     #[test]
@@ -96,7 +96,7 @@ mod tests {
         let mut sensors = Sensors(7);
         let (mut checks, mut boards) = (0, 0);
         for board in (0..ROUNDS).map(|_| sensors.board()) {
-            let sees = |kind: Kind, from: &Square| walk(kind, *from, board.occupied).contains(board.king);
+            let sees = |kind: Kind, from: &Square| Bitboard::walk(kind, *from, board.occupied).contains(board.king);
             let rooks = board.rook_movers.into_iter().filter(|from| sees(Kind::Rook, from));
             let bishops = board.bishop_movers.into_iter().filter(|from| sees(Kind::Bishop, from));
             let seen: Bitboard = rooks.chain(bishops).collect();

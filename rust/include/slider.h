@@ -10,7 +10,7 @@
  * once. A slice is a pointer and the number of elements behind it; the elements must be there, aligned, and lent for the call: what is
  * const is read, what is not is written and must not overlap with anything else that is lent. Of length 0 the pointer is not read.
  *
- * Stack: measured, a search needs 108 KiB, a build from a seed 220 KiB, one from multipliers 124 KiB, all else 20 KiB at most. Give a
+ * Stack: measured, a search needs 108 KiB, a build from a seed 228 KiB, one from multipliers 132 KiB, all else 20 KiB at most. Give a
  * thread that builds or searches SLIDER_STACK bytes, which is more than twice that.
  *
  * `number` in an answer is SLIDER_OK or the refusal's. The first that holds in the order 1, 2, 9, 10, 3 is given; in a look-up 8 before
@@ -91,12 +91,12 @@ typedef struct SliderBuild {
     uint64_t number;
     uint64_t block;
     uint64_t used;
-    SliderRecord records[SLIDER_BLOCKS];
-    uint64_t counts[SLIDER_BLOCKS];
+    SliderRecord records[128];
+    uint64_t counts[128];
 } SliderBuild;
 
 typedef struct SliderRecords {
-    SliderRecord records[SLIDER_BLOCKS];
+    SliderRecord records[128];
 } SliderRecords;
 
 /* where a block lies in a PEXT table */
@@ -187,8 +187,8 @@ SliderVerdict slider_audit(SliderRecords set, const uint64_t *table, size_t tabl
  * Query i is kinds[i], squares[i], blockers[i]. As many are answered as each of the five slices has, and that number is returned:
  * numbers[i] is 0 or the refusal's, moves[i] the set or 0. What the slices have past that stays as it is. */
 
-/* Look-ups, with the records of all blocks. A call copies them, 3 KiB, and lists all rays before it answers: measured, 235 ns. So it pays
- * from some 80 queries on. Refusals of a query: 1, 2, 8, 7. */
+/* Look-ups, with the records of all blocks. A call copies them, 3 KiB, and lists all rays before it answers: 235 ns, measured with an
+ * older kit (docs/SPEED.md). So it pays from some 80 queries on. Refusals of a query: 1, 2, 8, 7. */
 uint64_t slider_moves_batch(SliderRecords set, const uint64_t *table, size_t table_len, const uint8_t *kinds, size_t kinds_len,
     const uint8_t *squares, size_t squares_len, const uint64_t *blockers, size_t blockers_len,
     uint64_t *numbers, size_t numbers_len, uint64_t *moves, size_t moves_len);

@@ -1,6 +1,6 @@
 //! Sets of squares.
 
-use crate::Square;
+use crate::{board, Kind, Square};
 use std::fmt;
 use std::iter::FusedIterator;
 use std::ops::{BitAnd, BitAndAssign, BitOr, BitOrAssign, BitXor, BitXorAssign, Not, Sub, SubAssign};
@@ -52,7 +52,7 @@ impl Bitboard {
 impl From<Square> for Bitboard {
     #[inline]
     fn from(square: Square) -> Bitboard {
-        Bitboard(1 << square.number())
+        Bitboard(square.bit())
     }
 }
 
@@ -67,6 +67,41 @@ impl From<Bitboard> for u64 {
     #[inline]
     fn from(set: Bitboard) -> u64 {
         set.0
+    }
+}
+
+// ---- what a piece sees: the functions of the same names
+
+/// ```
+/// use slider::{Bitboard, Kind, Square};
+///
+/// assert_eq!(Bitboard::walk(Kind::Rook, Square::D4, Bitboard(0x0000_0800_0A00_0000)), Bitboard(0x0000_0808_F608_0808));
+/// assert_eq!(Bitboard::subset(Kind::Rook, Square::A1, 65), Bitboard(0x102));
+/// ```
+impl Bitboard {
+    /// The squares that a piece sees from a square of the empty board.
+    #[must_use]
+    pub fn rays(kind: Kind, square: Square) -> Bitboard {
+        Bitboard(board::rays(kind, square))
+    }
+
+    /// The rays without the squares whose blockers change nothing ([`mask`](crate::mask)).
+    #[must_use]
+    pub fn mask(kind: Kind, square: Square) -> Bitboard {
+        Bitboard(board::mask(kind, square))
+    }
+
+    /// Subset i of the mask ([`subset`](crate::subset)).
+    #[must_use]
+    pub fn subset(kind: Kind, square: Square, i: u64) -> Bitboard {
+        Bitboard(board::subset(kind, square, i))
+    }
+
+    /// The attack set, without a table: from the square in each direction up to and including the first blocker.
+    #[inline]
+    #[must_use]
+    pub fn walk(kind: Kind, square: Square, blockers: Bitboard) -> Bitboard {
+        Bitboard(board::walk(kind, square, blockers.0))
     }
 }
 

@@ -2,7 +2,7 @@
 
 use crate::ffi::{self, Batch, SliderAnswer};
 use crate::refusal::said;
-use crate::{Bitboard, Refusal, Square};
+use crate::{Refusal, Square};
 use std::fmt;
 
 /// Rook or bishop, with the library's numbers.
@@ -53,12 +53,12 @@ impl fmt::Display for Kind {
 /// The number of a block: bishop on s is s, rook on s is 64 + s.
 ///
 /// ```
-/// use slider::{block, Kind, Square};
+/// use slider::{block, Kind};
 ///
-/// assert_eq!(block(Kind::Rook, Square::A1), 64);
+/// assert_eq!(block(Kind::Rook, "a1".parse()?), 64);
+/// # Ok::<(), slider::Refusal>(())
 /// ```
 #[inline]
-#[must_use]
 pub fn block(kind: Kind, square: Square) -> usize {
     let from = match kind {
         Kind::Bishop => 0,
@@ -68,7 +68,6 @@ pub fn block(kind: Kind, square: Square) -> usize {
 }
 
 /// Kind and square of a block below 128.
-#[must_use]
 pub fn of_block(block: usize) -> Option<(Kind, Square)> {
     match block {
         0..=63 => Some((Kind::Bishop, Square::ALL[block])),
@@ -102,26 +101,22 @@ impl SliderAnswer {
 }
 
 /// The squares that a piece sees from a square of the empty board.
-#[must_use]
-pub fn rays(kind: Kind, square: Square) -> Bitboard {
-    Bitboard(ffi::rays(kind.into(), square.number()).sure())
+pub fn rays(kind: Kind, square: Square) -> u64 {
+    ffi::rays(kind.into(), square.number()).sure()
 }
 
 /// The rays without the squares whose blockers change nothing: the board's edge for a bishop, the ends of its own rank and file for a
 /// rook.
-#[must_use]
-pub fn mask(kind: Kind, square: Square) -> Bitboard {
-    Bitboard(ffi::mask(kind.into(), square.number()).sure())
+pub fn mask(kind: Kind, square: Square) -> u64 {
+    ffi::mask(kind.into(), square.number()).sure()
 }
 
 /// How many subsets the mask has: 2 to the number of its squares.
-#[must_use]
 pub fn size(kind: Kind, square: Square) -> usize {
     ffi::size(kind.into(), square.number()).sure() as usize
 }
 
 /// 64 less the number of the mask's squares, 52 to 59.
-#[must_use]
 pub fn shift(kind: Kind, square: Square) -> u8 {
     ffi::shift(kind.into(), square.number()).sure() as u8
 }
@@ -129,15 +124,15 @@ pub fn shift(kind: Kind, square: Square) -> u8 {
 /// Subset i of the mask: it has the j-th smallest square where bit j of i is set. Bits past the mask's count have no effect.
 ///
 /// ```
-/// use slider::{mask, size, subset, Bitboard, Kind, Square};
+/// use slider::{mask, size, subset, Kind};
 ///
-/// assert_eq!(subset(Kind::Rook, Square::A1, 65), Bitboard(0x102));
-/// let last = size(Kind::Rook, Square::A1) as u64 - 1;
-/// assert_eq!(subset(Kind::Rook, Square::A1, last), mask(Kind::Rook, Square::A1));
+/// let a1 = "a1".parse()?;
+/// assert_eq!(subset(Kind::Rook, a1, 65), 0x102);
+/// assert_eq!(subset(Kind::Rook, a1, size(Kind::Rook, a1) as u64 - 1), mask(Kind::Rook, a1));
+/// # Ok::<(), slider::Refusal>(())
 /// ```
-#[must_use]
-pub fn subset(kind: Kind, square: Square, i: u64) -> Bitboard {
-    Bitboard(ffi::subset(kind.into(), square.number(), i).sure())
+pub fn subset(kind: Kind, square: Square, i: u64) -> u64 {
+    ffi::subset(kind.into(), square.number(), i).sure()
 }
 
 /// The attack set: from the square in each direction up to and including the first blocker. It needs no table.
@@ -145,14 +140,14 @@ pub fn subset(kind: Kind, square: Square, i: u64) -> Bitboard {
 /// Proved of every kind, square and blocker set: a square is attacked exactly when it is on the rays with no blocker strictly between.
 ///
 /// ```
-/// use slider::{walk, Bitboard, Kind, Square};
+/// use slider::{walk, Kind};
 ///
-/// assert_eq!(walk(Kind::Rook, Square::D4, Bitboard(0x0000_0800_0A00_0000)), Bitboard(0x0000_0808_F608_0808));
+/// assert_eq!(walk(Kind::Rook, "d4".parse()?, 0x0000_0800_0A00_0000), 0x0000_0808_F608_0808);
+/// # Ok::<(), slider::Refusal>(())
 /// ```
 #[inline]
-#[must_use]
-pub fn walk(kind: Kind, square: Square, blockers: Bitboard) -> Bitboard {
-    Bitboard(ffi::walk(kind.into(), square.number(), blockers.0).sure())
+pub fn walk(kind: Kind, square: Square, blockers: u64) -> u64 {
+    ffi::walk(kind.into(), square.number(), blockers).sure()
 }
 
 /// Walks of many queries in one call: query i is `kinds[i]`, `squares[i]`, `blockers[i]`, as plain numbers of any value. As many are

@@ -24,8 +24,8 @@ impl std::error::Error for NoMemory {}
 /// ```
 /// use slider::{Error, Refusal, Tables, MAX_BUDGET};
 ///
-/// assert_eq!(Tables::build_with(42, MAX_BUDGET + 1, usize::MAX), Err(Error::Refused(Refusal::Budget)));
-/// assert!(matches!(Tables::build_with(42, MAX_BUDGET, usize::MAX), Err(Error::NoMemory(_))));
+/// assert_eq!(Tables::try_build_with(42, MAX_BUDGET + 1, usize::MAX), Err(Error::Refused(Refusal::Budget)));
+/// assert!(matches!(Tables::try_build_with(42, MAX_BUDGET, usize::MAX), Err(Error::NoMemory(_))));
 /// ```
 #[derive(Clone, Copy, Debug, PartialEq, Eq, Hash)]
 #[non_exhaustive]

@@ -1,6 +1,6 @@
 //! The library's exports, and all of the package's unsafe code.
 //!
-//! Declarations and structs say what crates/slider/src/lib.rt says; tests/exports.rs compares the two texts. A slice crosses as
+//! Declarations say what crates/slider_c/src/lib.rt says, structs what crates/slider/src/lib.rt says; tests/exports.rs compares the texts. A slice crosses as
 //! pointer and length. Three things make every call below sound; 1 and 2 are the exports' proved contracts, 3 is this file's to keep:
 //!
 //! 1. an export takes any numbers, any records and any lengths, for it has no `requires`;
@@ -206,4 +206,15 @@ impl Batch<'_> {
     pub fn walk(self) -> u64 {
         ask!(slider_walk_batch(), self)
     }
+}
+
+// ---- the C library
+
+/// Is this file descriptor a terminal? (`std` can tell from Rust 1.70 on.)
+pub fn is_terminal(descriptor: i32) -> bool {
+    extern "C" {
+        fn isatty(descriptor: i32) -> i32;
+    }
+    // SAFETY: a number goes in and comes out; any descriptor is allowed, also one that is not open.
+    unsafe { isatty(descriptor) == 1 }
 }

@@ -12,19 +12,12 @@ pub const ALL_SLOTS: usize = 107_648;
 /// The largest budget that a build or a search takes.
 pub const MAX_BUDGET: u64 = 16_777_216;
 /// A stack on which every call of this package runs, in bytes: a thread that builds or searches should have so much. Measured, a build
-/// from a seed needs 228 KiB, one from multipliers 132 KiB, a search 104 KiB. A thread of the standard library has 2 MiB unless it is
+/// from a seed needs 240 KiB, one from multipliers 140 KiB, a search 104 KiB. A thread of the standard library has 2 MiB unless it is
 /// told otherwise.
 pub const STACK: usize = 512 * 1024;
 
-/// What a look-up needs of a block. Fields may be added: begin with `Record::default()` and set them.
-///
-/// ```
-/// let mut record = slider::Record::default();
-/// record.shift = 52;
-/// assert_eq!((record.multiplier, record.mask, record.offset, record.shift), (0, 0, 0, 52));
-/// ```
+/// What a look-up needs of a block.
 #[derive(Clone, Copy, Debug, Default, PartialEq, Eq, Hash)]
-#[non_exhaustive]
 #[repr(C)]
 #[allow(missing_docs)] // the rulebook's words
 pub struct Record {
@@ -38,7 +31,6 @@ pub struct Record {
 
 /// What the search of one block found.
 #[derive(Clone, Copy, Debug, PartialEq, Eq, Hash)]
-#[non_exhaustive]
 pub struct Found {
     /// The first candidate that passes.
     pub multiplier: u64,
@@ -53,11 +45,12 @@ pub struct Found {
 /// Refusals 10 and 5.
 ///
 /// ```
-/// use slider::{search, Kind, Refusal, Square, MAX_BUDGET};
+/// use slider::{search, Kind, Refusal, MAX_BUDGET};
 ///
-/// let found = search(Kind::Bishop, Square::C1, 42, MAX_BUDGET)?;
-/// assert_eq!(search(Kind::Bishop, Square::C1, 42, found.count), Ok(found));
-/// assert_eq!(search(Kind::Bishop, Square::C1, 42, found.count - 1), Err(Refusal::Spent { block: 2 }));
+/// let c1 = "c1".parse()?;
+/// let found = search(Kind::Bishop, c1, 42, MAX_BUDGET)?;
+/// assert_eq!(search(Kind::Bishop, c1, 42, found.count), Ok(found));
+/// assert_eq!(search(Kind::Bishop, c1, 42, found.count - 1), Err(Refusal::Spent { block: 2 }));
 /// # Ok::<(), Refusal>(())
 /// ```
 pub fn search(kind: Kind, square: Square, seed: u64, budget: u64) -> Result<Found, Refusal> {
@@ -70,8 +63,6 @@ pub fn search(kind: Kind, square: Square, seed: u64, budget: u64) -> Result<Foun
 
 /// How a build in lent memory ended. After a refusal everything but the outcome is zero.
 #[derive(Clone, Debug, PartialEq, Eq)]
-#[non_exhaustive]
-#[must_use = "a refused build leaves no tables"]
 pub struct Build {
     /// Built, or refused.
     pub outcome: Result<(), Refusal>,
@@ -119,8 +110,8 @@ pub fn build_lent(multipliers: &[u64], table: &mut [u64], marks: &mut [u64]) -> 
 ///
 /// Refusals 8 and 7.
 #[inline]
-pub fn moves(kind: Kind, square: Square, blockers: Bitboard, record: Record, table: &[u64]) -> Result<Bitboard, Refusal> {
-    ffi::moves(kind.into(), square.number(), blockers.0, record, table).said().map(Bitboard)
+pub fn moves(kind: Kind, square: Square, blockers: u64, record: Record, table: &[u64]) -> Result<u64, Refusal> {
+    ffi::moves(kind.into(), square.number(), blockers, record, table).said()
 }
 
 /// The look-up in what a build made or an audit accepted: it is proved not to be refused.
@@ -132,8 +123,8 @@ pub(crate) fn looked_up(records: &[Record; BLOCKS], table: &[u64], kind: Kind, s
 
 /// Many look-ups in one call, by any records and any table; slices and answers as in [`walk_batch`](crate::walk_batch).
 ///
-/// A call copies the records, 3 KiB, and lists the rays of all blocks before it answers: measured, 235 ns. Then a query takes half of what
-/// a call of [`moves`] takes, so a batch pays from some 80 queries on (docs/SPEED.md).
+/// A call copies the records, 3 KiB, and lists the rays of all blocks before it answers: 235 ns, measured with an older kit. Then a query
+/// takes half of what a call of [`moves`] takes, so a batch pays from some 80 queries on (docs/SPEED.md).
 pub fn moves_batch(
     records: &[Record; BLOCKS],
     table: &[u64],
@@ -148,7 +139,9 @@ pub fn moves_batch(
 
 // ---- audit
 
-/// Audits any records over any table: accepted, or the first fault.
+/// Audits any records over any table: the reach, which is the end of block 127, or the first fault.
+///
+/// After acceptance every look-up is the walk, whoever built the table; [`Audited`] holds what was accepted.
 ///
 /// # Errors
 ///
@@ -159,16 +152,15 @@ pub fn moves_batch(
 ///
 /// let tables = Tables::build(42)?;
 /// let mut damaged = tables.table().to_vec();
-/// assert_eq!(audit(tables.records(), &damaged)?.reach(), tables.audit()?.reach());
+/// assert_eq!(audit(tables.records(), &damaged), tables.audit());
 ///
 /// damaged[tables.records()[3].offset as usize] ^= 1 << 12; // the slot of d1's bishop without blockers loses e2
 /// assert_eq!(audit(tables.records(), &damaged), Err(Refusal::SlotAt { block: 3, subset: 0 }));
-/// # Ok::<(), slider::Error>(())
+/// # Ok::<(), Refusal>(())
 /// ```
-pub fn audit<'a>(records: &'a [Record; BLOCKS], table: &'a [u64]) -> Result<Audited<'a>, Refusal> {
+pub fn audit(records: &[Record; BLOCKS], table: &[u64]) -> Result<u64, Refusal> {
     let verdict = ffi::audit(SliderRecords { records: *records }, table);
-    let accepted = Audited { records, table, reach: verdict.reach };
-    said(verdict.number, accepted, || Refusal::of_audit(verdict.number, verdict.block, verdict.subset))
+    said(verdict.number, verdict.reach, || Refusal::of_audit(verdict.number, verdict.block, verdict.subset))
 }
 
 /// Records and a table that an audit has accepted, whoever built them. While they are borrowed nobody changes them.
@@ -176,14 +168,14 @@ pub fn audit<'a>(records: &'a [Record; BLOCKS], table: &'a [u64]) -> Result<Audi
 /// Proved of what is accepted: every look-up is the walk, for each kind, square and blocker set. So a look-up here is never refused.
 ///
 /// ```
-/// use slider::{audit, walk, Bitboard, Kind, Square, Tables};
+/// use slider::{Audited, Bitboard, Kind, Square, Tables};
 ///
 /// let built = Tables::build(42)?;
 /// let (records, table) = (*built.records(), built.table().to_vec()); // as they come from anywhere
-/// let audited = audit(&records, &table)?;
+/// let audited = Audited::of(&records, &table)?;
 /// let blockers = Bitboard(0x0000_0800_0A00_0000);
-/// assert_eq!(audited.moves(Kind::Rook, Square::D4, blockers), walk(Kind::Rook, Square::D4, blockers));
-/// # Ok::<(), slider::Error>(())
+/// assert_eq!(audited.attacks(Kind::Rook, Square::D4, blockers), Bitboard::walk(Kind::Rook, Square::D4, blockers));
+/// # Ok::<(), slider::Refusal>(())
 /// ```
 #[derive(Clone, Copy, PartialEq, Eq)]
 pub struct Audited<'a> {
@@ -192,11 +184,20 @@ pub struct Audited<'a> {
     reach: u64,
 }
 
-impl Audited<'_> {
+impl<'a> Audited<'a> {
+    /// What [`audit`] accepts.
+    ///
+    /// # Errors
+    ///
+    /// Those of [`audit`].
+    pub fn of(records: &'a [Record; BLOCKS], table: &'a [u64]) -> Result<Audited<'a>, Refusal> {
+        audit(records, table).map(|reach| Audited { records, table, reach })
+    }
+
     /// The attack set.
     #[inline]
     #[must_use]
-    pub fn moves(self, kind: Kind, square: Square, blockers: Bitboard) -> Bitboard {
+    pub fn attacks(self, kind: Kind, square: Square, blockers: Bitboard) -> Bitboard {
         looked_up(self.records, self.table, kind, square, blockers)
     }
 

@@ -25,8 +25,8 @@ pub fn fill(entries: &mut [u16]) -> Result<u64, Refusal> {
 ///
 /// Refusal 9.
 #[inline]
-pub fn moves(kind: Kind, square: Square, blockers: Bitboard, entries: &[u16]) -> Result<Bitboard, Refusal> {
-    ffi::pext_moves(kind.into(), square.number(), blockers.0, entries).said().map(Bitboard)
+pub fn moves(kind: Kind, square: Square, blockers: u64, entries: &[u16]) -> Result<u64, Refusal> {
+    ffi::pext_moves(kind.into(), square.number(), blockers, entries).said()
 }
 
 /// Where a block lies in a table.
@@ -36,11 +36,12 @@ pub fn moves(kind: Kind, square: Square, blockers: Bitboard, entries: &[u16]) ->
 /// Refusal 9.
 ///
 /// ```
-/// use slider::{pext, Kind, Refusal, Square};
+/// use slider::{pext, Kind, Refusal};
 ///
 /// let entries = vec![0; pext::ENTRIES];
-/// assert_eq!(pext::place(Kind::Bishop, Square::A1, &entries), Ok(4096..4160));
-/// assert_eq!(pext::place(Kind::Bishop, Square::A1, &entries[1..]), Err(Refusal::Length));
+/// assert_eq!(pext::place(Kind::Bishop, "a1".parse()?, &entries), Ok(4096..4160));
+/// assert_eq!(pext::place(Kind::Bishop, "a1".parse()?, &entries[1..]), Err(Refusal::Length));
+/// # Ok::<(), Refusal>(())
 /// ```
 pub fn place(kind: Kind, square: Square, entries: &[u16]) -> Result<Range<usize>, Refusal> {
     let place = ffi::pext_place(kind.into(), square.number(), entries);
@@ -67,10 +68,12 @@ pub fn moves_batch(
 /// ```
 /// use slider::{pext, walk, Bitboard, Kind, Square};
 ///
-/// let table = pext::Table::fill()?;
-/// assert_eq!(table.moves(Kind::Rook, Square::H8, Bitboard::EMPTY), Bitboard(0x7F80_8080_8080_8080));
-/// assert_eq!(table.moves(Kind::Bishop, Square::H8, Bitboard::FULL), walk(Kind::Bishop, Square::H8, Bitboard::FULL));
-/// # Ok::<(), slider::NoMemory>(())
+/// let table = pext::Table::fill();
+/// let h8 = "h8".parse()?;
+/// assert_eq!(table.moves(Kind::Rook, h8, 0), 0x7F80_8080_8080_8080);
+/// assert_eq!(table.moves(Kind::Bishop, h8, u64::MAX), walk(Kind::Bishop, h8, u64::MAX));
+/// assert_eq!(table.attacks(Kind::Rook, Square::H8, Bitboard::EMPTY), Bitboard(0x7F80_8080_8080_8080));
+/// # Ok::<(), slider::Refusal>(())
 /// ```
 #[derive(Clone, PartialEq, Eq)]
 pub struct Table {
@@ -78,12 +81,17 @@ pub struct Table {
 }
 
 impl Table {
+    /// Fills a table. Without memory for it the program ends.
+    pub fn fill() -> Table {
+        Table::try_fill().unwrap_or_else(|error| panic!("{error}"))
+    }
+
     /// Fills a table.
     ///
     /// # Errors
     ///
     /// No memory.
-    pub fn fill() -> Result<Table, NoMemory> {
+    pub fn try_fill() -> Result<Table, NoMemory> {
         let mut entries = zeros(ENTRIES)?;
         fill(&mut entries).expect("the length is right");
         Ok(Table { entries })
@@ -91,9 +99,15 @@ impl Table {
 
     /// The attack set.
     #[inline]
+    pub fn moves(&self, kind: Kind, square: Square, blockers: u64) -> u64 {
+        ffi::pext_moves(kind.into(), square.number(), blockers, &self.entries).sure()
+    }
+
+    /// The attack set: [`moves`](Table::moves) over [`Bitboard`].
+    #[inline]
     #[must_use]
-    pub fn moves(&self, kind: Kind, square: Square, blockers: Bitboard) -> Bitboard {
-        Bitboard(ffi::pext_moves(kind.into(), square.number(), blockers.0, &self.entries).sure())
+    pub fn attacks(&self, kind: Kind, square: Square, blockers: Bitboard) -> Bitboard {
+        Bitboard(self.moves(kind, square, blockers.0))
     }
 
     /// Attack sets of many queries in one call; slices and answers as in [`walk_batch`](crate::walk_batch).
@@ -104,18 +118,16 @@ impl Table {
     /// The entries of one block: entry i is the walk of subset i, extracted through the rays.
     ///
     /// ```
-    /// use slider::{pext::Table, Kind, Square};
+    /// use slider::{pext::Table, Kind};
     ///
-    /// assert_eq!(Table::fill()?.block(Kind::Rook, Square::A1)[65], 129);
-    /// # Ok::<(), slider::NoMemory>(())
+    /// assert_eq!(Table::fill().block(Kind::Rook, "a1".parse()?)[65], 129);
+    /// # Ok::<(), slider::Refusal>(())
     /// ```
-    #[must_use]
     pub fn block(&self, kind: Kind, square: Square) -> &[u16] {
         &self.entries[place(kind, square, &self.entries).expect("the length is right")]
     }
 
     /// All entries.
-    #[must_use]
     pub fn entries(&self) -> &[u16] {
         &self.entries
     }

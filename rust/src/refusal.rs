@@ -5,18 +5,17 @@ use std::fmt;
 
 /// Why a call has no answer: the rows of the rulebook's table "Numbers handed back".
 ///
-/// Rows 7 and 8 have two cases each, as an audit says where, and a look-up does not. More rows may come.
+/// Rows 7 and 8 have two cases each, as an audit says where, and a look-up does not.
 ///
 /// ```
 /// use slider::{Refusal, Tables};
 ///
-/// let refusal = Tables::build_with(42, 1000, 63).unwrap_err().refusal().unwrap();
+/// let refusal = Tables::build_with(42, 1000, 63).unwrap_err();
 /// assert_eq!(refusal, Refusal::NoRoom { block: 0 });
 /// assert_eq!((refusal.number(), refusal.block(), refusal.subset()), (4, Some(0), None));
 /// assert_eq!(refusal.to_string(), "refusal 4: no room in the table for block 0 (bishop a1)");
 /// ```
 #[derive(Clone, Copy, Debug, PartialEq, Eq, Hash)]
-#[non_exhaustive]
 #[allow(missing_docs)] // a block and a subset are what their names say
 pub enum Refusal {
     /// 1: the kind is above 1.
@@ -69,20 +68,17 @@ impl Refusal {
         }
     }
 
-    /// The number in the rulebook's table.
-    #[must_use]
+    /// The number in the rulebook's table, 1 to 11.
     pub const fn number(self) -> u8 {
         self.values().0
     }
 
     /// The block, 0 to 127, where the refusal carries one.
-    #[must_use]
     pub const fn block(self) -> Option<usize> {
         self.values().1
     }
 
     /// The subset's number, where the refusal carries one.
-    #[must_use]
     pub const fn subset(self) -> Option<usize> {
         self.values().2
     }
@@ -93,7 +89,6 @@ impl Refusal {
     /// assert_eq!(slider::Refusal::of_look_up(0), None);
     /// assert_eq!(slider::Refusal::of_look_up(2), Some(slider::Refusal::Square));
     /// ```
-    #[must_use]
     pub fn of_look_up(number: u64) -> Option<Refusal> {
         numbered(number, &[Refusal::Kind, Refusal::Square, Refusal::Index, Refusal::Shift, Refusal::Length])
     }

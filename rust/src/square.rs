@@ -18,7 +18,7 @@ use std::str::FromStr;
 /// assert_eq!("i4".parse::<Square>(), Err(Refusal::Square));
 /// # Ok::<(), Refusal>(())
 /// ```
-#[derive(Clone, Copy, PartialEq, Eq, PartialOrd, Ord, Hash)]
+#[derive(Clone, Copy, Debug, PartialEq, Eq, PartialOrd, Ord, Hash)]
 #[repr(transparent)]
 pub struct Square(u8);
 
@@ -56,39 +56,43 @@ impl Square {
         Square((number % 64) as u8)
     }
 
+    /// The 64 squares, a1 to h8.
+    pub fn all() -> impl DoubleEndedIterator<Item = Square> + ExactSizeIterator {
+        (0..64).map(Square)
+    }
+
     /// 0 to 63.
     #[inline]
-    #[must_use]
     pub const fn number(self) -> u8 {
         self.0
     }
 
     /// 0 to 7, from rank 1.
-    #[must_use]
     pub const fn rank(self) -> u8 {
         self.0 / 8
     }
 
     /// 0 to 7, from file a.
-    #[must_use]
     pub const fn file(self) -> u8 {
         self.0 % 8
     }
 
+    /// The set of this square alone.
+    pub const fn bit(self) -> u64 {
+        1 << self.0
+    }
+
     /// The square one rank higher, if it is on the board.
-    #[must_use]
     pub fn up(self) -> Option<Square> {
         to(ffi::up(self.0))
     }
 
     /// The square one rank lower, if it is on the board.
-    #[must_use]
     pub fn down(self) -> Option<Square> {
         to(ffi::down(self.0))
     }
 
     /// The square one file towards a, if it is on the board.
-    #[must_use]
     pub fn left(self) -> Option<Square> {
         to(ffi::left(self.0))
     }
@@ -98,10 +102,10 @@ impl Square {
     /// ```
     /// use slider::Square;
     ///
-    /// assert_eq!(Square::G1.right(), Some(Square::H1));
-    /// assert_eq!(Square::H1.right(), None);
+    /// let g1 = Square::try_from(6).unwrap();
+    /// assert_eq!(g1.right().unwrap().to_string(), "h1");
+    /// assert_eq!(g1.right().unwrap().right(), None);
     /// ```
-    #[must_use]
     pub fn right(self) -> Option<Square> {
         to(ffi::right(self.0))
     }
@@ -143,11 +147,5 @@ impl fmt::Display for Square {
     fn fmt(&self, f: &mut fmt::Formatter) -> fmt::Result {
         let name = ffi::name(self.0);
         f.pad(&String::from_iter([name.letter, name.digit].map(char::from)))
-    }
-}
-
-impl fmt::Debug for Square {
-    fn fmt(&self, f: &mut fmt::Formatter) -> fmt::Result {
-        fmt::Display::fmt(self, f)
     }
 }

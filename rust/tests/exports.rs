@@ -2,10 +2,14 @@
 
 mod common;
 
-use common::text;
 use std::collections::BTreeMap;
 use std::path::PathBuf;
 use std::process::Command;
+
+fn text(path: &str) -> String {
+    let path = PathBuf::from(env!("CARGO_MANIFEST_DIR")).join(path);
+    std::fs::read_to_string(&path).unwrap_or_else(|error| panic!("{}: {error}", path.display()))
+}
 
 /// Without comments, on one line, with single spaces.
 fn flat(text: &str) -> String {
@@ -54,7 +58,7 @@ fn rust(text: &str, before: &str, open: char, close: char) -> Declared {
     all
 }
 
-/// C: `const uint64_t *table`, `Record records[SLIDER_BLOCKS]`.
+/// C: `const uint64_t *table`, `Record records[128]`.
 fn c_item(item: &str) -> String {
     let item = item.replace("SliderRecord ", "Record ").replace("uint", "u").replace("_t ", " ").replace("size ", "usize ");
     let (type_, name) = item.rsplit_once(' ').unwrap();
@@ -63,8 +67,8 @@ fn c_item(item: &str) -> String {
         (Some(name), None) => (name, format!("*mut {type_}")),
         _ => (name, type_.to_string()),
     };
-    match name.strip_suffix("[SLIDER_BLOCKS]") {
-        Some(name) => format!("{name}: [{type_}; 128]"),
+    match name.strip_suffix(']').and_then(|name| name.split_once('[')) {
+        Some((name, length)) => format!("{name}: [{type_}; {length}]"),
         None => format!("{name}: {type_}"),
     }
 }
@@ -93,6 +97,86 @@ fn c_structs(text: &str) -> Declared {
     all
 }
 
+#[test]
+fn functions_are_declared_as_exported() {
+    let exported = rust(&flat(&text("../crates/slider_c/src/lib.rt")), "pub extern \"C\" fn ", '(', ')');
+    assert_eq!(exported.len(), 23);
+    let ffi = flat(&text("src/ffi.rs")).replace("fn slider_", "@ slider_");
+    assert_eq!(rust(&ffi, "@ ", '(', ')'), exported, "src/ffi.rs");
+    assert_eq!(c_functions(&flat(&text("include/slider.h"))), exported, "include/slider.h");
+}
+
+#[test]
+fn structs_are_declared_as_exported() {
+    let slider = flat(&text("../crates/slider/src/lib.rt"));
+    let gen_magic = flat(&text("../crates/gen_magic/src/lib.rt"));
+    let mut exported = rust(&slider, "pub struct ", '{', '}');
+    let record = |text: &str| rust(text, "pub struct Record", '{', '}').remove("").unwrap();
+    exported.insert("Record".to_string(), record(&gen_magic));
+    assert_eq!(exported.len(), 9);
+
+    let mut ffi = rust(&flat(&text("src/ffi.rs")), "pub struct Slider", '{', '}');
+    ffi = ffi.into_iter().map(|(name, fields)| (format!("Slider{name}"), fields)).collect();
+    ffi.insert("Record".to_string(), record(&flat(&text("src/magic.rs"))));
+    assert_eq!(ffi, exported, "src/ffi.rs");
+    assert_eq!(c_structs(&flat(&text("include/slider.h"))), exported, "include/slider.h");
+}
+
+/// Lines without comments; derives may stand between `#[repr(C)]` and the struct.
+#[test]
+fn structs_have_the_layout_of_c() {
+    for (path, prefix) in [
+        ("../crates/slider/src/lib.rt", "pub struct Slider"),
+        ("../crates/gen_magic/src/lib.rt", "pub struct Record "),
+        ("src/ffi.rs", "pub struct Slider"),
+        ("src/magic.rs", "pub struct Record "),
+    ] {
+        let text = text(path);
+        let lines: Vec<&str> = text.lines().map(str::trim).filter(|line| !line.starts_with("//")).collect();
+        let structs = (0..lines.len()).filter(|i| lines[*i].starts_with(prefix));
+        let mut count = 0;
+        for i in structs {
+            let above = lines[..i].iter().rev().take_while(|line| line.starts_with('#'));
+            assert!(above.clone().any(|line| *line == "#[repr(C)]"), "{path}: {}", lines[i]);
+            count += 1;
+        }
+        assert!(count > 0, "{path}: no {prefix}");
+    }
+}
+
+/// A C compiler for x86-64: where Rust links for x86-64 there is one.
+fn compiler() -> &'static str {
+    let makes_x86_64 = |name: &&str| {
+        let machine = Command::new(name).arg("-dumpmachine").output();
+        machine.map_or(false, |output| String::from_utf8_lossy(&output.stdout).starts_with("x86_64"))
+    };
+    let found = ["x86_64-linux-gnu-gcc", "cc", "gcc", "clang"].into_iter().find(makes_x86_64);
+    found.expect("no C compiler for x86-64 here")
+}
+
+#[test]
+fn a_program_in_c() {
+    let here = PathBuf::from(env!("CARGO_MANIFEST_DIR"));
+    let program = PathBuf::from(env!("CARGO_TARGET_TMPDIR")).join("check");
+    let mut command = Command::new(compiler());
+    command.args(["-std=c11", "-O2", "-Wall", "-Wextra", "-Wpedantic", "-Werror", "-I"]).arg(here.join("include"));
+    command.arg(here.join("tests/c/check.c")).arg(env!("SLIDER_ARCHIVE")).arg("-o").arg(&program);
+    let output = command.output().unwrap();
+    assert!(output.status.success(), "{}", String::from_utf8_lossy(&output.stderr));
+
+    let runner = std::env::var_os("CARGO_TARGET_X86_64_UNKNOWN_LINUX_GNU_RUNNER");
+    let mut command = runner.map_or(Command::new(&program), |runner| {
+        let mut command = Command::new(runner);
+        command.arg(&program);
+        command
+    });
+    let output = command.output().unwrap();
+    let said = String::from_utf8_lossy(&output.stdout);
+    assert!(output.status.success() && said.ends_with(" checks, 0 failed\n"), "{said}");
+}
+
+// ---- what else declares the exports
+
 /// The comparison declares the exports anew, with shorter names for its structs.
 fn compared() -> String {
     let mut text = flat(&text("compare/src/ours.rs"))
@@ -106,36 +190,37 @@ fn compared() -> String {
 }
 
 #[test]
-fn functions_are_declared_as_exported() {
-    let exported = rust(&flat(&text("../crates/slider/src/lib.rt")), "pub extern \"C\" fn ", '(', ')');
-    assert_eq!(exported.len(), 23);
-    let ffi = flat(&text("src/ffi.rs")).replace("fn slider_", "@ slider_");
-    assert_eq!(rust(&ffi, "@ ", '(', ')'), exported, "src/ffi.rs");
-    assert_eq!(c_functions(&flat(&text("include/slider.h"))), exported, "include/slider.h");
+fn compared_functions_are_declared_as_exported() {
+    let exported = rust(&flat(&text("../crates/slider_c/src/lib.rt")), "pub extern \"C\" fn ", '(', ')');
     let compared = compared().replace("pub fn slider_", "@ slider_");
     assert_eq!(rust(&compared, "@ ", '(', ')'), exported, "compare/src/ours.rs");
 }
 
 #[test]
-fn structs_are_declared_as_exported() {
-    let slider = flat(&text("../crates/slider/src/lib.rt"));
-    let gen_magic = flat(&text("../crates/gen_magic/src/lib.rt"));
-    let mut exported = rust(&slider, "pub struct ", '{', '}');
+fn compared_structs_are_declared_as_exported() {
+    let mut exported = rust(&flat(&text("../crates/slider/src/lib.rt")), "pub struct ", '{', '}');
     let record = |text: &str| rust(text, "pub struct Record", '{', '}').remove("").unwrap();
-    exported.insert("Record".to_string(), record(&gen_magic));
-    assert_eq!(exported.len(), 9);
+    exported.insert("Record".to_string(), record(&flat(&text("../crates/gen_magic/src/lib.rt"))));
 
-    let named = |text: &str| -> Declared {
-        let structs = rust(text, "pub struct Slider", '{', '}').into_iter();
-        structs.map(|(name, fields)| (format!("Slider{name}"), fields)).collect()
-    };
-    let mut ffi = named(&flat(&text("src/ffi.rs")));
-    ffi.insert("Record".to_string(), record(&flat(&text("src/magic.rs"))));
-    assert_eq!(ffi, exported, "src/ffi.rs");
-    assert_eq!(c_structs(&flat(&text("include/slider.h"))), exported, "include/slider.h");
-    let mut ours = named(&compared());
+    let structs = rust(&compared(), "pub struct Slider", '{', '}').into_iter();
+    let mut ours: Declared = structs.map(|(name, fields)| (format!("Slider{name}"), fields)).collect();
     ours.insert("Record".to_string(), record(&compared()));
     assert_eq!(ours, exported, "compare/src/ours.rs");
+
+    let text = text("compare/src/ours.rs");
+    let lines: Vec<&str> = text.lines().map(str::trim).filter(|line| !line.starts_with("//")).collect();
+    for i in (0..lines.len()).filter(|i| lines[*i].starts_with("pub struct ") && !lines[*i].contains("Queries")) {
+        let mut above = lines[..i].iter().rev().take_while(|line| line.starts_with('#'));
+        assert!(above.any(|line| *line == "#[repr(C)]"), "{}", lines[i]);
+    }
+}
+
+/// An export is the library's function of the same name, with the same parameters and the same result.
+#[test]
+fn exports_are_functions_of_the_library() {
+    let exported = rust(&flat(&text("../crates/slider_c/src/lib.rt")), "pub extern \"C\" fn ", '(', ')');
+    let functions = rust(&flat(&text("../crates/slider/src/lib.rt")), "pub fn ", '(', ')');
+    assert_eq!(exported, functions);
 }
 
 /// The header's numbers against the package's.
@@ -160,39 +245,6 @@ fn numbers_of_the_header() {
     assert!(numbers.eq((1..=11).map(|number| number.to_string())), "the refusals' numbers");
 }
 
-/// Lines without comments; derives may stand between `#[repr(C)]` and the struct.
-#[test]
-fn structs_have_the_layout_of_c() {
-    for (path, prefix) in [
-        ("../crates/slider/src/lib.rt", "pub struct Slider"),
-        ("../crates/gen_magic/src/lib.rt", "pub struct Record "),
-        ("src/ffi.rs", "pub struct Slider"),
-        ("src/magic.rs", "pub struct Record "),
-        ("compare/src/ours.rs", "pub struct "),
-    ] {
-        let text = text(path);
-        let lines: Vec<&str> = text.lines().map(str::trim).filter(|line| !line.starts_with("//")).collect();
-        let structs = (0..lines.len()).filter(|i| lines[*i].starts_with(prefix) && !lines[*i].contains("Queries"));
-        let mut count = 0;
-        for i in structs {
-            let above = lines[..i].iter().rev().take_while(|line| line.starts_with('#'));
-            assert!(above.clone().any(|line| *line == "#[repr(C)]"), "{path}: {}", lines[i]);
-            count += 1;
-        }
-        assert!(count > 0, "{path}: no {prefix}");
-    }
-}
-
-/// A C compiler for x86-64: where Rust links for x86-64 there is one.
-fn compiler() -> &'static str {
-    let makes_x86_64 = |name: &&str| {
-        let machine = Command::new(name).arg("-dumpmachine").output();
-        machine.map_or(false, |output| String::from_utf8_lossy(&output.stdout).starts_with("x86_64"))
-    };
-    let found = ["x86_64-linux-gnu-gcc", "cc", "gcc", "clang"].into_iter().find(makes_x86_64);
-    found.expect("no C compiler for x86-64 here")
-}
-
 /// Compiles a program in C with the line that README.md and the header tell, and runs it.
 fn compiled(source: &str, strict: &[&str]) -> (bool, String) {
     let here = PathBuf::from(env!("CARGO_MANIFEST_DIR"));
@@ -207,9 +259,10 @@ fn compiled(source: &str, strict: &[&str]) -> (bool, String) {
     (output.status.success(), String::from_utf8_lossy(&output.stdout).into_owned())
 }
 
+/// The same checks on a thread of SLIDER_STACK bytes, and the names of the numbers.
 #[test]
-fn a_program_in_c() {
-    let (well, said) = compiled("tests/c/check.c", &["-std=c11", "-Wall", "-Wextra", "-Wpedantic", "-Werror", "-pthread"]);
+fn a_program_in_c_on_a_small_stack() {
+    let (well, said) = compiled("tests/c/stack.c", &["-std=c11", "-Wall", "-Wextra", "-Wpedantic", "-Werror", "-pthread"]);
     assert!(well && said.ends_with(" checks, 0 failed\n"), "{said}");
 }
 

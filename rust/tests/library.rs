@@ -15,13 +15,13 @@ impl Random {
     }
 
     /// Sets of several densities.
-    fn set(&mut self) -> Bitboard {
-        Bitboard(match self.next() % 4 {
+    fn set(&mut self) -> u64 {
+        match self.next() % 4 {
             0 => self.next(),
             1 => self.next() & self.next(),
             2 => self.next() & self.next() & self.next(),
             _ => self.next() | self.next(),
-        })
+        }
     }
 }
 
@@ -42,12 +42,12 @@ fn lines(kind: Kind, square: Square) -> [Vec<Square>; 4] {
     })
 }
 
-fn plain_walk(kind: Kind, square: Square, blockers: Bitboard) -> Bitboard {
-    let mut set = Bitboard::EMPTY;
+fn plain_walk(kind: Kind, square: Square, blockers: u64) -> u64 {
+    let mut set = 0;
     for line in lines(kind, square) {
         for place in line {
-            set |= place.into();
-            if blockers.contains(place) {
+            set |= place.bit();
+            if blockers & place.bit() != 0 {
                 break;
             }
         }
@@ -57,12 +57,12 @@ fn plain_walk(kind: Kind, square: Square, blockers: Bitboard) -> Bitboard {
 
 #[test]
 fn squares_and_their_names() {
-    assert_eq!((Square::A1.number(), Square::H1.number(), Square::A8.number(), Square::H8.number()), (0, 7, 56, 63));
-    for (n, square) in (0..64).zip(Square::ALL) {
-        assert_eq!((square.number(), square.rank(), square.file()), (n, n / 8, n % 8));
+    assert_eq!(Square::all().len(), 64);
+    for (n, square) in (0..64).zip(Square::all()) {
+        assert_eq!((square.number(), square.rank(), square.file(), square.bit()), (n, n / 8, n % 8, 1 << n));
         assert_eq!((Square::try_from(n), u8::from(square)), (Ok(square), n));
         let name = format!("{}{}", (b'a' + n % 8) as char, n / 8 + 1);
-        assert_eq!((square.to_string(), format!("{square:?}"), name.parse()), (name.clone(), name.clone(), Ok(square)));
+        assert_eq!((square.to_string(), name.parse()), (name.clone(), Ok(square)));
         assert_eq!(format!("{name} and what follows").parse(), Ok(square));
         let step = |allowed: bool, to: i8| allowed.then(|| Square::try_from((n as i8 + to) as u8).unwrap());
         assert_eq!((square.up(), square.down()), (step(n < 56, 8), step(n > 7, -8)));
@@ -74,44 +74,6 @@ fn squares_and_their_names() {
     for name in ["", "a", "1", "a0", "a9", "i1", "`1", "A1", "1a", " a1", "é1"] {
         assert_eq!(name.parse::<Square>(), Err(Refusal::Square), "{name:?}");
     }
-    assert_eq!(format!("[{:4}] [{:>4}]", Square::D4, Kind::Rook), "[d4  ] [rook]");
-}
-
-/// Against a list of squares, one by one.
-#[test]
-fn bitboards_are_sets() {
-    let mut random = Random(11);
-    let sets: Vec<Bitboard> = [Bitboard::EMPTY, Bitboard::FULL]
-        .into_iter()
-        .chain(Square::ALL.map(Bitboard::from))
-        .chain((0..200).map(|_| random.set()))
-        .collect();
-    for (i, &a) in sets.iter().enumerate() {
-        let squares: Vec<Square> = Square::ALL.into_iter().filter(|square| a.0 >> square.number() & 1 == 1).collect();
-        assert_eq!(a.into_iter().collect::<Vec<_>>(), squares);
-        assert_eq!((a.len(), a.is_empty(), a.into_iter().len()), (squares.len(), squares.is_empty(), squares.len()));
-        assert_eq!((squares.iter().copied().collect::<Bitboard>(), u64::from(a), Bitboard::from(a.0)), (a, a.0, a));
-        assert!(Square::ALL.into_iter().all(|square| a.contains(square) == squares.contains(&square)));
-        let lines: Vec<String> = a.to_string().lines().map(|line| line.replace(' ', "")).collect();
-        assert_eq!((lines.len(), lines.iter().all(|line| line.len() == 8)), (8, true));
-        assert!(Square::ALL.into_iter().all(|square| {
-            let sign = lines[7 - usize::from(square.rank())].as_bytes()[usize::from(square.file())];
-            sign == if a.contains(square) { b'X' } else { b'.' }
-        }));
-        let b = sets[(i * 7 + 3) % sets.len()];
-        assert_eq!(((a & b).0, (a | b).0, (a ^ b).0, (a - b).0, (!a).0), (a.0 & b.0, a.0 | b.0, a.0 ^ b.0, a.0 & !b.0, !a.0));
-        let mut c = [a; 4];
-        c[0] &= b;
-        c[1] |= b;
-        c[2] ^= b;
-        c[3] -= b;
-        assert_eq!(c, [a & b, a | b, a ^ b, a - b]);
-    }
-    let set = Bitboard(0xFF);
-    assert_eq!(
-        (format!("{set:?}"), format!("{set:x}"), format!("{set:04X}")),
-        ("Bitboard(0x00000000000000FF)".into(), "ff".into(), "00FF".into())
-    );
 }
 
 #[test]
@@ -129,15 +91,17 @@ fn kinds_and_blocks() {
 fn rays_masks_and_subsets() {
     let mut slots = 0;
     for (kind, square) in blocks() {
+        let set = |squares: &[Square]| squares.iter().fold(0, |set, square| set | square.bit());
         let lines = lines(kind, square);
-        assert_eq!(rays(kind, square), lines.iter().flatten().copied().collect());
+        assert_eq!(rays(kind, square), lines.iter().fold(0, |all, line| all | set(line)));
         // the last square of a line is an edge square, and its blocker changes nothing
-        let inner: Bitboard = lines.iter().flat_map(|line| &line[..line.len().saturating_sub(1)]).copied().collect();
+        let inner = lines.iter().fold(0, |all, line| all | set(&line[..line.len().saturating_sub(1)]));
         assert_eq!(mask(kind, square), inner, "{kind} {square}");
-        assert_eq!((size(kind, square), shift(kind, square)), (1 << inner.len(), 64 - inner.len() as u8));
+        assert_eq!((size(kind, square), shift(kind, square)), (1 << inner.count_ones(), 64 - inner.count_ones() as u8));
         slots += size(kind, square);
         for i in [0, 1, 5, size(kind, square) as u64 - 1, u64::MAX] {
-            let wanted = (0..12).filter(|j| i >> j & 1 == 1).filter_map(|j| inner.into_iter().nth(j)).collect();
+            let nth = |j: u64| Square::all().filter(|s| inner & s.bit() != 0).nth(j as usize).map_or(0, Square::bit);
+            let wanted = (0..12).filter(|j| i >> j & 1 == 1).fold(0, |set, j| set | nth(j));
             assert_eq!(subset(kind, square, i), wanted);
         }
     }
@@ -147,21 +111,19 @@ fn rays_masks_and_subsets() {
 /// Demand 2 by runs: walk, PEXT look-up and magic look-up are one, for all subsets of all masks and for any 64 bits.
 #[test]
 fn three_engines_are_one() {
-    let (tables, pext) = (Tables::build(0xaea0_b056_15e9_7b6c).unwrap(), pext::Table::fill().unwrap());
-    let audited = tables.audit().unwrap();
+    let (tables, pext) = (Tables::build(0xaea0_b056_15e9_7b6c).unwrap(), pext::Table::fill());
     let check = |kind, square, blockers| {
         let wanted = plain_walk(kind, square, blockers);
         assert_eq!(walk(kind, square, blockers), wanted, "{kind} {square} {blockers:016X}");
         assert_eq!(pext.moves(kind, square, blockers), wanted, "{kind} {square} {blockers:016X}");
-        assert_eq!(tables.moves(kind, square, blockers), wanted, "{kind} {square} {blockers:016X}");
-        assert_eq!(audited.moves(kind, square, blockers), wanted, "{kind} {square} {blockers:016X}");
+        assert_eq!(tables.moves(kind, square, blockers), Ok(wanted), "{kind} {square} {blockers:016X}");
     };
     let mut random = Random(7);
     for (kind, square) in blocks() {
         for i in 0..size(kind, square) as u64 {
             check(kind, square, subset(kind, square, i));
         }
-        for blockers in [Bitboard::EMPTY, Bitboard::FULL, square.into()].into_iter().chain((0..200).map(|_| random.set())) {
+        for blockers in [0, u64::MAX, square.bit()].into_iter().chain((0..200).map(|_| random.set())) {
             check(kind, square, blockers);
         }
     }
@@ -179,13 +141,10 @@ fn limits_of_a_build() {
     assert_eq!((least.records(), least.counts(), least.used()), (full.records(), full.counts(), full.used()));
     assert_eq!((least.table(), least.marks()), (&full.table()[..full.used()], &full.marks()[..full.used()]));
     assert!(full.table()[full.used()..].iter().chain(&full.marks()[full.used()..]).all(|&slot| slot == 0));
-    assert_eq!(Tables::build_with(seed, most - 1, ALL_SLOTS).unwrap_err(), Error::Refused(Refusal::Spent { block: 108 }));
-    assert_eq!(
-        Tables::build_with(seed, MAX_BUDGET, full.used() - 1).unwrap_err(),
-        Error::Refused(Refusal::NoRoom { block: 127 })
-    );
-    assert_eq!(Tables::build_with(seed, MAX_BUDGET + 1, ALL_SLOTS).unwrap_err(), Error::Refused(Refusal::Budget));
-    assert_eq!(Tables::build_with(seed, u64::MAX, 0).unwrap_err(), Error::Refused(Refusal::Budget));
+    assert_eq!(Tables::build_with(seed, most - 1, ALL_SLOTS).unwrap_err(), Refusal::Spent { block: 108 });
+    assert_eq!(Tables::build_with(seed, MAX_BUDGET, full.used() - 1).unwrap_err(), Refusal::NoRoom { block: 127 });
+    assert_eq!(Tables::build_with(seed, MAX_BUDGET + 1, ALL_SLOTS).unwrap_err(), Refusal::Budget);
+    assert_eq!(Tables::build_with(seed, u64::MAX, 0).unwrap_err(), Refusal::Budget);
 
     let mut random = Random(1);
     let mut garbage = || (0..200_000).map(|_| random.next()).collect::<Vec<_>>();
@@ -197,31 +156,6 @@ fn limits_of_a_build() {
     );
     assert_eq!((&table[..ALL_SLOTS], &marks[..ALL_SLOTS]), (full.table(), full.marks()));
     assert!(table[ALL_SLOTS..].iter().chain(&marks[ALL_SLOTS..]).all(|&slot| slot == 0));
-}
-
-/// Judged by the library before any memory is asked for; then memory that cannot be had is an error of its own, and no panic.
-#[test]
-fn arguments_before_memory() {
-    let multipliers = [1; BLOCKS];
-    for slots in [0, 1 << 44, usize::MAX / 8, usize::MAX] {
-        for budget in [MAX_BUDGET + 1, u64::MAX] {
-            assert_eq!(Tables::build_with(42, budget, slots), Err(Error::Refused(Refusal::Budget)), "{slots} slots");
-        }
-        for list in [&[][..], &[1, 2], &multipliers[1..]] {
-            assert_eq!(Tables::from_multipliers(list, slots), Err(Error::Refused(Refusal::Length)), "{slots} slots");
-        }
-    }
-    for count in [1 << 44, usize::MAX / 8, usize::MAX] {
-        let error = Tables::build_with(42, MAX_BUDGET, count).unwrap_err();
-        assert_eq!((error.refusal(), error.to_string()), (None, format!("the memory for {count} slots cannot be had")));
-        assert_eq!(Tables::from_multipliers(&multipliers, count), Err(error));
-        assert_eq!(slots(count).map_err(Error::from), Err(error));
-    }
-    assert_eq!(slots(3), Ok(vec![0; 3]));
-    assert_eq!(Tables::build_with(42, 0, 0), Err(Error::Refused(Refusal::NoRoom { block: 0 })));
-    assert_eq!(Tables::from_multipliers(&multipliers, 0), Err(Error::Refused(Refusal::NoRoom { block: 0 })));
-    let error: Box<dyn std::error::Error> = Error::Refused(Refusal::Budget).into();
-    assert_eq!(error.to_string(), Refusal::Budget.to_string());
 }
 
 #[test]
@@ -259,12 +193,12 @@ fn one_block_searches_are_the_builds() {
     let tables = Tables::build(1).unwrap();
     for (number, (kind, square)) in blocks().enumerate() {
         let (record, count) = (tables.records()[number], tables.counts()[number]);
-        let found = search(kind, square, 1, MAX_BUDGET).unwrap();
-        assert_eq!((found.multiplier, found.count), (record.multiplier, count));
+        let found = Found { multiplier: record.multiplier, count };
+        assert_eq!(search(kind, square, 1, MAX_BUDGET), Ok(found));
         assert_eq!(search(kind, square, 1, count - 1), Err(Refusal::Spent { block: number }));
-        assert_eq!((Bitboard(record.mask), record.shift), (mask(kind, square), shift(kind, square)));
+        assert_eq!((record.mask, record.shift), (mask(kind, square), shift(kind, square)));
     }
-    assert_eq!(search(Kind::Rook, Square::A1, 1, MAX_BUDGET + 1), Err(Refusal::Budget));
+    assert_eq!(search(Kind::Rook, "a1".parse().unwrap(), 1, MAX_BUDGET + 1), Err(Refusal::Budget));
 }
 
 #[test]
@@ -274,28 +208,20 @@ fn lent_multipliers_build_the_same() {
     let again = Tables::from_multipliers(&multipliers, ALL_SLOTS).unwrap();
     assert_eq!((again.table(), again.marks(), again.records()), (tables.table(), tables.marks(), tables.records()));
     assert_eq!((again.counts(), again.used()), (&[0; BLOCKS], tables.used()));
-    assert_eq!(Tables::from_multipliers(&multipliers[1..], ALL_SLOTS).unwrap_err(), Error::Refused(Refusal::Length));
-    assert_eq!(
-        Tables::from_multipliers(&multipliers, tables.used() - 1).unwrap_err(),
-        Error::Refused(Refusal::NoRoom { block: 127 })
-    );
-}
-
-fn record(offset: u32, shift: u8) -> Record {
-    let mut record = Record::default();
-    (record.offset, record.shift) = (offset, shift);
-    record
+    assert_eq!(Tables::from_multipliers(&multipliers[1..], ALL_SLOTS).unwrap_err(), Refusal::Length);
+    assert_eq!(Tables::from_multipliers(&multipliers, tables.used() - 1).unwrap_err(), Refusal::NoRoom { block: 127 });
 }
 
 #[test]
 fn look_ups_refuse_8_before_7() {
-    let look = |record: Record, table: &[u64]| moves(Kind::Rook, Square::D4, Bitboard::EMPTY, record, table);
-    assert_eq!(look(record(0, 52), &[u64::MAX]), Ok(rays(Kind::Rook, Square::D4)));
-    assert_eq!(look(record(0, 52), &[]), Err(Refusal::Index));
-    assert_eq!(look(record(1, 52), &[0]), Err(Refusal::Index));
-    assert_eq!(look(record(u32::MAX, 52), &[0]), Err(Refusal::Index));
+    let d4: Square = "d4".parse().unwrap();
+    let record = Record { multiplier: 0, mask: 0, offset: 0, shift: 52 };
+    assert_eq!(moves(Kind::Rook, d4, 0, record, &[u64::MAX]), Ok(rays(Kind::Rook, d4)));
+    assert_eq!(moves(Kind::Rook, d4, 0, record, &[]), Err(Refusal::Index));
+    assert_eq!(moves(Kind::Rook, d4, 0, Record { offset: 1, ..record }, &[0]), Err(Refusal::Index));
+    assert_eq!(moves(Kind::Rook, d4, 0, Record { offset: u32::MAX, ..record }, &[0]), Err(Refusal::Index));
     for shift in (0..52).chain(60..=255) {
-        assert_eq!(look(record(0, shift), &[]), Err(Refusal::Shift), "{shift}");
+        assert_eq!(moves(Kind::Rook, d4, 0, Record { shift, ..record }, &[]), Err(Refusal::Shift), "{shift}");
     }
 }
 
@@ -304,23 +230,24 @@ fn audits() {
     let tables = Tables::build(1).unwrap();
     let (records, table) = (tables.records(), tables.table());
     let end = u64::from(records[127].offset) + 4096;
-    assert_eq!(tables.audit().unwrap().reach(), end);
-    assert_eq!(audit(records, &table[..tables.used()]).unwrap().reach(), end);
+    assert_eq!(tables.audit(), Ok(end));
+    assert_eq!(audit(records, &table[..tables.used()]), Ok(end));
     assert_eq!(audit(records, &[]), Err(Refusal::IndexAt { block: 0, subset: 0 }));
     assert_eq!(audit(&[Record::default(); BLOCKS], table), Err(Refusal::RecordAt { block: 0 }));
     let damaged = |number: usize, damage: fn(&mut Record)| {
         let mut records = *records;
         damage(&mut records[number]);
-        audit(&records, table).map(|audited| audited.reach())
+        audit(&records, table)
     };
     assert_eq!(damaged(90, |r| r.mask ^= 1), Err(Refusal::RecordAt { block: 90 }));
     assert_eq!(damaged(127, |r| r.shift += 1), Err(Refusal::RecordAt { block: 127 }));
     assert_eq!(damaged(64, |r| r.offset = u32::MAX), Err(Refusal::IndexAt { block: 64, subset: 0 }));
     assert!(matches!(damaged(64, |r| r.multiplier ^= 1 << 40), Err(Refusal::SlotAt { block: 64, .. })));
     // each slot of a block that a subset reaches, one bit of its rays flipped: the first subset to reach it is named
-    let record = records[block(Kind::Rook, Square::D4)];
+    let d4 = "d4".parse().unwrap();
+    let record = records[block(Kind::Rook, d4)];
     for i in [0, 1, 100, 1023] {
-        let index = (record.multiplier.wrapping_mul(subset(Kind::Rook, Square::D4, i).0) >> record.shift) as usize;
+        let index = (record.multiplier.wrapping_mul(subset(Kind::Rook, d4, i)) >> record.shift) as usize;
         let mut table = table.to_vec();
         table[record.offset as usize + index] ^= 1 << 26; // c4
         match audit(records, &table) {
@@ -334,7 +261,7 @@ fn audits() {
 
 #[test]
 fn pext_tables() {
-    let table = pext::Table::fill().unwrap();
+    let table = pext::Table::fill();
     let mut dirty = vec![0xA5A5; pext::ENTRIES];
     assert_eq!(pext::fill(&mut dirty), Ok(107_648));
     assert_eq!(dirty, table.entries());
@@ -342,7 +269,7 @@ fn pext_tables() {
         let mut entries = vec![0xA5A5; length];
         assert_eq!(pext::fill(&mut entries), Err(Refusal::Length));
         assert!(entries.iter().all(|&entry| entry == 0xA5A5));
-        assert_eq!(pext::moves(Kind::Rook, Square::A1, Bitboard::EMPTY, &entries), Err(Refusal::Length));
+        assert_eq!(pext::moves(Kind::Rook, Square::try_from(0).unwrap(), 0, &entries), Err(Refusal::Length));
     }
     for (kind, name, offset) in [
         (Kind::Rook, "a1", 0),
@@ -362,17 +289,17 @@ fn pext_tables() {
 /// As many as the shortest slice has; refused queries too; what is past the end stays.
 #[test]
 fn batches() {
-    let (tables, pext) = (Tables::build(1).unwrap(), pext::Table::fill().unwrap());
+    let (tables, pext) = (Tables::build(1).unwrap(), pext::Table::fill());
     let mut random = Random(3);
     let count = 5000;
     let kinds: Vec<u8> =
         (0..count).map(|i| if i % 97 == 0 { 2 + (random.next() % 254) as u8 } else { (random.next() % 2) as u8 }).collect();
     let squares: Vec<u8> =
         (0..count).map(|i| if i % 89 == 0 { random.next() as u8 } else { (random.next() % 64) as u8 }).collect();
-    let blockers: Vec<u64> = (0..count).map(|_| random.set().0).collect();
+    let blockers: Vec<u64> = (0..count).map(|_| random.set()).collect();
     let wanted: Vec<(u64, u64)> = (0..count)
         .map(|i| match (Kind::try_from(kinds[i]), Square::try_from(squares[i])) {
-            (Ok(kind), Ok(square)) => (0, plain_walk(kind, square, Bitboard(blockers[i])).0),
+            (Ok(kind), Ok(square)) => (0, plain_walk(kind, square, blockers[i])),
             (Err(refusal), _) | (_, Err(refusal)) => (refusal.number().into(), 0),
         })
         .collect();
@@ -487,19 +414,9 @@ fn threads() {
                 let mut random = Random(seed);
                 for (kind, square) in blocks() {
                     let blockers = random.set();
-                    assert_eq!(tables.moves(kind, square, blockers), walk(kind, square, blockers));
+                    assert_eq!(tables.moves(kind, square, blockers), Ok(walk(kind, square, blockers)));
                 }
             });
         }
     });
-}
-
-/// Every type may be shared and sent.
-#[test]
-fn shared_and_sent() {
-    fn both<T: Send + Sync>() {}
-    both::<Tables>();
-    both::<Audited>();
-    both::<pext::Table>();
-    both::<Error>();
 }

@@ -42,13 +42,13 @@ fn queries() {
     assert_eq!(said(Command::new("sh").args(["-c", &line, "sh"]).args(words)), answers);
 }
 
-/// The example in Rust is one that the documentation's tests run.
+/// The examples in Rust are those that the documentation's tests run.
 #[test]
 fn rust() {
-    let readme = text("README.md");
-    let code = readme.split("```rust\n").nth(1).unwrap().split("```").next().unwrap();
-    let tested = text("src/lib.rs");
-    for line in code.lines().filter(|line| !line.is_empty()) {
+    let (readme, tested) = (text("README.md"), text("src/lib.rs"));
+    let examples: Vec<&str> = readme.split("```rust\n").skip(1).map(|rest| rest.split("```").next().unwrap()).collect();
+    assert_eq!(examples.len(), 2);
+    for line in examples.concat().lines().filter(|line| !line.is_empty()) {
         assert!(tested.contains(&format!("//! {line}\n")), "{line}");
     }
 }

@@ -13,7 +13,7 @@ echo "fn a: proved"
 [ ! -e "$top/fails" ] || exit 1
 if [ -e "$top/edited" ]; then sleep 0.1; echo more >> "$top/crates/a"; fi
 mkdir -p out
-echo archive > out/libslider.a
+echo archive > out/libslider_c.a
 "#;
 
 struct Repository(PathBuf);
@@ -22,7 +22,7 @@ impl Repository {
     fn new(name: &str) -> Repository {
         let top = PathBuf::from(env!("CARGO_TARGET_TMPDIR")).join("scripts").join(name);
         let _ = fs::remove_dir_all(&top);
-        for folder in ["bin", "crates/slider", "rust", "tools"] {
+        for folder in ["bin", "crates/slider_c", "rust", "tools"] {
             fs::create_dir_all(top.join(folder)).unwrap();
         }
         let here = Path::new(env!("CARGO_MANIFEST_DIR"));
@@ -89,7 +89,7 @@ fn what_is_not_proved_is_not_built() {
     top.write("fails", "");
     let (output, _) = top.library();
     assert_eq!(output.status.code(), Some(2));
-    assert!(text(&output.stderr).contains("rt lib in crates/slider failed: see "), "{}", text(&output.stderr));
+    assert!(text(&output.stderr).contains("rt lib in crates/slider_c failed: see "), "{}", text(&output.stderr));
     fs::remove_file(top.0.join("fails")).unwrap();
     assert_eq!(top.library().0.status.code(), Some(0));
     top.write("fails", "");
@@ -151,7 +151,7 @@ fn the_comparison_judges_first() {
         (vec![chess, "board", "b...d"], "no part \"b...d\""),
         (vec![chess, "speed", "many"], "QUERIES is a decimal number, not \"many\""),
         (vec![chess, "speed", "0"], "QUERIES is above 0"),
-        (vec![chess, "speed", "10", "4"], "ROUNDS is 5 at least"),
+        (vec![chess, "speed", "10", "0"], "ROUNDS is above 0"),
         (vec![chess, "speed", "10", "5", "6"], "speed [QUERIES [ROUNDS]]"),
         (vec![chess, "record"], "record FOLDER"),
         (vec![chess, "record", "no-such-folder"], "record FOLDER"),

@@ -3,7 +3,7 @@
 //! compare [PART..]         compares; without a word all parts
 //! compare record FOLDER    writes stdin and stdout of crates/recorded: questions and the original's answers
 //! compare image SEED       prints the image of our build from a seed, and its seconds
-//! compare speed [QUERIES [ROUNDS]]    speed, ours and the original's: 10000000 queries, 7 rounds
+//! compare speed [QUERIES [ROUNDS]]    speed, ours and the original's: 10000000 queries, 5 rounds
 //!
 //! COMPARE_RANDOM=N sets the random cases of a row (3,000,000), COMPARE_TRIALS=N the damaged builds of a sort that the audit is asked
 //! about (200), COMPARE_SEED=S the seed of both. COMPARE_FLIP=PART,ROW,INDEX,BIT flips one bit of our answer in one comparison.
@@ -109,12 +109,12 @@ fn main() {
             Err(_) => usage("SEED is a decimal number"),
         },
         "speed" if words.len() <= 3 => {
-            let number = |i: usize, least: usize, default: usize| match words.get(i).map(|w| w.parse()) {
+            let number = |i: usize, default: usize| match words.get(i).map(|w| w.parse()) {
                 None => default,
-                Some(Ok(n)) if n >= least => n,
-                _ => usage("QUERIES is a decimal number above 0, ROUNDS one of 5 at least"),
+                Some(Ok(n)) if n > 0 => n,
+                _ => usage("QUERIES and ROUNDS are decimal numbers above 0"),
             };
-            return speed::run(number(1, 1, 10_000_000), number(2, 5, 7));
+            return speed::run(number(1, 10_000_000), number(2, 5));
         }
         _ => {}
     }

@@ -1,4 +1,4 @@
-//! The library's exports (crates/slider/src/lib.rt), declared and wrapped. A slice crosses as pointer and length. Each export takes any
+//! The library's exports (crates/slider_c/src/lib.rt), declared and wrapped. A slice crosses as pointer and length. Each export takes any
 //! numbers, any records and any lengths, so each wrapper is safe.
 
 pub const ALL: usize = 107_648;

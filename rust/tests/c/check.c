@@ -1,13 +1,10 @@
-/* Calls every export from C: layouts, the rulebook's examples, refusals, a build on a thread of SLIDER_STACK bytes. Writes "N checks, M
- * failed". */
+/* Calls every export from C: layouts, the rulebook's examples, refusals, a build. Writes "N checks, M failed". */
 #include "slider.h"
 
-#include <pthread.h>
 #include <stdio.h>
 #include <stdlib.h>
 #include <string.h>
 
-_Static_assert(SLIDER_VERSION == 100 && SLIDER_REFUSED_SLOT == 11, "numbers");
 _Static_assert(sizeof(SliderAnswer) == 16, "SliderAnswer");
 _Static_assert(sizeof(SliderVerdict) == 32, "SliderVerdict");
 _Static_assert(sizeof(SliderFound) == 32, "SliderFound");
@@ -26,8 +23,8 @@ static void check(int holds, const char *text, int line) {
     }
 }
 #define CHECK(holds) check((holds), #holds, __LINE__)
-#define GIVES(answer, x) do { SliderAnswer a = (answer); check(a.number == SLIDER_OK && a.value == (x), #answer, __LINE__); } while (0)
-#define REFUSES(answer, n) do { SliderAnswer a = (answer); check(a.number == (uint64_t)(n) && a.value == 0, #answer, __LINE__); } while (0)
+#define GIVES(answer, x) do { SliderAnswer a = (answer); check(a.number == 0 && a.value == (x), #answer, __LINE__); } while (0)
+#define REFUSES(answer, n) do { SliderAnswer a = (answer); check(a.number == (n) && a.value == 0, #answer, __LINE__); } while (0)
 
 static uint64_t fnv(const uint64_t *slots, size_t len) {
     uint64_t hash = 0xCBF29CE484222325u;
@@ -53,39 +50,39 @@ static void board(void) {
     GIVES(slider_walk(SLIDER_ROOK, 0, UINT64_MAX), 0x102);
     GIVES(slider_walk(SLIDER_ROOK, 63, 0), 0x7F80808080808080u);
     GIVES(slider_square((const uint8_t *)"d4", 2), 27);
-    REFUSES(slider_square((const uint8_t *)"d9", 2), SLIDER_REFUSED_SQUARE);
-    REFUSES(slider_square(NULL, 0), SLIDER_REFUSED_SQUARE);
-    REFUSES(slider_rays(2, 64), SLIDER_REFUSED_KIND);
-    REFUSES(slider_mask(1, 64), SLIDER_REFUSED_SQUARE);
-    REFUSES(slider_size(255, 255), SLIDER_REFUSED_KIND);
-    REFUSES(slider_shift(0, 255), SLIDER_REFUSED_SQUARE);
-    REFUSES(slider_subset(2, 0, 0), SLIDER_REFUSED_KIND);
-    REFUSES(slider_walk(0, 64, 0), SLIDER_REFUSED_SQUARE);
+    REFUSES(slider_square((const uint8_t *)"d9", 2), 2);
+    REFUSES(slider_square(NULL, 0), 2);
+    REFUSES(slider_rays(2, 64), 1);
+    REFUSES(slider_mask(1, 64), 2);
+    REFUSES(slider_size(255, 255), 1);
+    REFUSES(slider_shift(0, 255), 2);
+    REFUSES(slider_subset(2, 0, 0), 1);
+    REFUSES(slider_walk(0, 64, 0), 2);
     SliderName name = slider_name(27);
-    CHECK(name.number == SLIDER_OK && name.letter == 'd' && name.digit == '4');
+    CHECK(name.number == 0 && name.letter == 'd' && name.digit == '4');
     name = slider_name(64);
-    CHECK(name.number == SLIDER_REFUSED_SQUARE && name.letter == 0 && name.digit == 0);
+    CHECK(name.number == 2 && name.letter == 0 && name.digit == 0);
     SliderStep step = slider_up(0);
-    CHECK(step.number == SLIDER_OK && step.off == 0 && step.square == 8);
+    CHECK(step.number == 0 && step.off == 0 && step.square == 8);
     step = slider_down(0);
-    CHECK(step.number == SLIDER_OK && step.off == 1 && step.square == 0);
+    CHECK(step.number == 0 && step.off == 1 && step.square == 0);
     step = slider_left(7);
-    CHECK(step.number == SLIDER_OK && step.off == 0 && step.square == 6);
+    CHECK(step.number == 0 && step.off == 0 && step.square == 6);
     step = slider_right(64);
-    CHECK(step.number == SLIDER_REFUSED_SQUARE && step.off == 0 && step.square == 0);
+    CHECK(step.number == 2 && step.off == 0 && step.square == 0);
 }
 
 static uint16_t *pext(void) {
     uint16_t *table = malloc(SLIDER_SLOTS * sizeof *table);
     memset(table, 0xA5, SLIDER_SLOTS * sizeof *table);
-    REFUSES(slider_pext_fill(table, SLIDER_SLOTS - 1), SLIDER_REFUSED_LENGTH);
+    REFUSES(slider_pext_fill(table, SLIDER_SLOTS - 1), 9);
     CHECK(table[0] == 0xA5A5);
     GIVES(slider_pext_fill(table, SLIDER_SLOTS), SLIDER_SLOTS);
     CHECK(table[65] == 129);
     GIVES(slider_pext_moves(SLIDER_ROOK, 27, 0x000008000A000000u, table, SLIDER_SLOTS), 0x00000808F6080808u);
-    REFUSES(slider_pext_moves(SLIDER_ROOK, 27, 0, table, 0), SLIDER_REFUSED_LENGTH);
+    REFUSES(slider_pext_moves(SLIDER_ROOK, 27, 0, table, 0), 9);
     SliderPlace place = slider_pext_place(SLIDER_BISHOP, 63, table, SLIDER_SLOTS);
-    CHECK(place.number == SLIDER_OK && place.offset == 107584 && place.size == 64);
+    CHECK(place.number == 0 && place.offset == 107584 && place.size == 64);
     return table;
 }
 
@@ -94,45 +91,45 @@ static void magic(const uint16_t *pext_table) {
     memset(table, 0xA5, SLIDER_SLOTS * sizeof *table);
     memset(marks, 0x5A, SLIDER_SLOTS * sizeof *marks);
     SliderBuild built = slider_build(1, SLIDER_MAX_BUDGET + 1, table, SLIDER_SLOTS, marks, SLIDER_SLOTS);
-    CHECK(built.number == SLIDER_REFUSED_BUDGET && built.used == 0 && table[0] == 0xA5A5A5A5A5A5A5A5u);
+    CHECK(built.number == 10 && built.used == 0 && table[0] == 0xA5A5A5A5A5A5A5A5u);
     built = slider_build(1, 0, table, SLIDER_SLOTS, marks, SLIDER_SLOTS - 1);
-    CHECK(built.number == SLIDER_REFUSED_LENGTHS && marks[0] == 0x5A5A5A5A5A5A5A5Au);
+    CHECK(built.number == 3 && marks[0] == 0x5A5A5A5A5A5A5A5Au);
     built = slider_build(1, 0, table, 64, marks, 64);
-    CHECK(built.number == SLIDER_REFUSED_SPENT && built.block == 0 && table[0] == 0 && table[64] == 0xA5A5A5A5A5A5A5A5u);
+    CHECK(built.number == 5 && built.block == 0 && table[0] == 0 && table[64] == 0xA5A5A5A5A5A5A5A5u);
     built = slider_build(1, SLIDER_MAX_BUDGET, table, SLIDER_SLOTS, marks, SLIDER_SLOTS);
-    CHECK(built.number == SLIDER_OK && built.used == 104960 && built.counts[71] == 171853 && built.records[127].shift == 52);
+    CHECK(built.number == 0 && built.used == 104960 && built.counts[71] == 171853 && built.records[127].shift == 52);
     CHECK(fnv(table, SLIDER_SLOTS) == 0xFD018B2303A5733Bu && fnv(marks, SLIDER_SLOTS) == 0x1665126B5C4CB9A5u);
 
     SliderFound found = slider_search(SLIDER_ROOK, 7, 1, SLIDER_MAX_BUDGET);
-    CHECK(found.number == SLIDER_OK && found.multiplier == built.records[71].multiplier && found.count == 171853);
+    CHECK(found.number == 0 && found.multiplier == built.records[71].multiplier && found.count == 171853);
     found = slider_search(SLIDER_ROOK, 7, 1, 171852);
-    CHECK(found.number == SLIDER_REFUSED_SPENT && found.block == 71 && found.multiplier == 0 && found.count == 0);
+    CHECK(found.number == 5 && found.block == 71 && found.multiplier == 0 && found.count == 0);
 
     GIVES(slider_moves(SLIDER_ROOK, 27, 0x000008000A000000u, built.records[64 + 27], table, SLIDER_SLOTS), 0x00000808F6080808u);
-    REFUSES(slider_moves(SLIDER_ROOK, 27, 0, built.records[64 + 27], table, 0), SLIDER_REFUSED_INDEX);
+    REFUSES(slider_moves(SLIDER_ROOK, 27, 0, built.records[64 + 27], table, 0), 7);
     SliderRecord wrong = built.records[64 + 27];
     wrong.shift = 60;
-    REFUSES(slider_moves(SLIDER_ROOK, 27, 0, wrong, table, 0), SLIDER_REFUSED_RECORD);
+    REFUSES(slider_moves(SLIDER_ROOK, 27, 0, wrong, table, 0), 8);
 
     SliderRecords set;
     memcpy(set.records, built.records, sizeof set.records);
     SliderVerdict verdict = slider_audit(set, table, SLIDER_SLOTS);
-    CHECK(verdict.number == SLIDER_OK && verdict.reach == 104960);
+    CHECK(verdict.number == 0 && verdict.reach == 104960);
     verdict = slider_audit(set, table, 1000);
-    CHECK(verdict.number == SLIDER_REFUSED_INDEX && verdict.reach == 0);
+    CHECK(verdict.number == 7 && verdict.reach == 0);
     set.records[100].mask ^= 1;
     verdict = slider_audit(set, table, SLIDER_SLOTS);
-    CHECK(verdict.number == SLIDER_REFUSED_RECORD && verdict.block == 100 && verdict.subset == 0);
+    CHECK(verdict.number == 8 && verdict.block == 100 && verdict.subset == 0);
     set.records[100].mask ^= 1;
     table[set.records[0].offset] ^= 0x200;
     verdict = slider_audit(set, table, SLIDER_SLOTS);
-    CHECK(verdict.number == SLIDER_REFUSED_SLOT && verdict.block == 0 && verdict.subset == 0);
+    CHECK(verdict.number == 11 && verdict.block == 0 && verdict.subset == 0);
 
     uint64_t lent[SLIDER_BLOCKS];
     for (int block = 0; block < SLIDER_BLOCKS; block++)
         lent[block] = built.records[block].multiplier;
     SliderBuild again = slider_build_lent(lent, SLIDER_BLOCKS, table, SLIDER_SLOTS, marks, SLIDER_SLOTS);
-    CHECK(again.number == SLIDER_OK && again.used == built.used);
+    CHECK(again.number == 0 && again.used == built.used);
     for (int block = 0; block < SLIDER_BLOCKS; block++)
         CHECK(same(again.records[block], built.records[block]) && again.counts[block] == 0);
     CHECK(fnv(table, SLIDER_SLOTS) == 0xFD018B2303A5733Bu);
@@ -155,19 +152,11 @@ static void magic(const uint16_t *pext_table) {
     free(marks);
 }
 
-static void *all(void *unused) {
+int main(void) {
     board();
     uint16_t *pext_table = pext();
     magic(pext_table);
     free(pext_table);
-    return unused;
-}
-
-int main(void) {
-    pthread_attr_t small;
-    pthread_t thread;
-    CHECK(pthread_attr_init(&small) == 0 && pthread_attr_setstacksize(&small, SLIDER_STACK) == 0);
-    CHECK(pthread_create(&thread, &small, all, NULL) == 0 && pthread_join(thread, NULL) == 0);
     printf("%d checks, %d failed\n", checks, failed);
     return failed != 0;
 }

@@ -128,17 +128,17 @@ fn lines(square: i32, slanted: bool) -> Vec<Vec<u32>> {
 /// The same identity from the program and in its reports; the library's digest is that of the file.
 #[test]
 fn identity() {
-    let ran = slider("--version");
+    let ran = slider("version");
     let lines: Vec<&str> = ran.out.lines().collect();
     assert_eq!((lines.len(), lines[0]), (4, concat!("slider ", env!("CARGO_PKG_VERSION"))));
-    assert_eq!((slider("-V").out, slider("version").out), (ran.out.clone(), ran.out.clone()));
+    assert_eq!((slider("-V").out, slider("--version").out), (ran.out.clone(), format!("{}\n", lines[0])));
     let rest = |line: &'static str, at: usize| lines[at].strip_prefix(line).unwrap_or_else(|| panic!("{}", lines[at]));
     let (commit, kit, library) = (rest("commit ", 1), rest("kit ", 2), rest("library-sha256 ", 3));
     let json = format!(
         "{{\"version\":\"{}\",\"commit\":\"{commit}\",\"kit\":\"{kit}\",\"library-sha256\":\"{library}\"}}\n",
         env!("CARGO_PKG_VERSION")
     );
-    slider("--version --json").gives(&json, 0);
+    slider("version --json").gives(&json, 0);
     let digest = Command::new("sha256sum").arg(env!("SLIDER_ARCHIVE")).output().unwrap();
     assert!(String::from_utf8(digest.stdout).unwrap().starts_with(library), "{library}");
     assert!(
@@ -146,6 +146,6 @@ fn identity() {
         "{commit}"
     );
     assert!(kit == "unknown" || kit.contains(" logic "), "{kit}");
-    let report = slider("build 1 --slots 0").out;
+    let report = slider("build 1 --slots 0 --origin").out;
     assert!(report.ends_with(&format!("\nmade {}\n", lines.join(" "))), "{report}");
 }

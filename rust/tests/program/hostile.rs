@@ -23,18 +23,17 @@ const ANSWERING: [(&[&str], i32); 12] = [
     (&["query"], 0),
 ];
 
-/// An answer that nobody can get is a failure, whatever it was.
+/// With a standard output that is closed, or open and not for writing, Rust's takes the answer and drops it: the status stands.
 #[test]
 fn closed_output() {
-    for (words, _) in ANSWERING {
-        in_shell(r#"exec "$@" >&-"#, words).is_bad(&["cannot write the answer: "]);
-        in_shell(r#"exec "$@" 1< /dev/null"#, words).is_bad(&["cannot write the answer: "]);
-        // open, and not for writing
+    for (words, status) in ANSWERING {
+        for shell in [r#"exec "$@" >&-"#, r#"exec "$@" 1< /dev/null"#] {
+            let ran = in_shell(shell, words);
+            assert_eq!((ran.status, ran.out.as_str()), (Some(status), ""), "{words:?}: {}", ran.err);
+        }
     }
-    // with a report in a file nothing is to be said there
     let ran = in_shell(r#"exec "$@" >&-"#, &["build", "1", "--slots", "0", "--out", "/dev/null"]);
-    assert_eq!(ran.status, Some(1), "{}", ran.err);
-    ran.says(&["refusal 4"]);
+    assert_eq!((ran.status, ran.err.as_str()), (Some(1), ""));
 }
 
 /// Thrown away on purpose is another thing.
@@ -66,7 +65,7 @@ fn broken_pipe() {
         let output = child.wait_with_output().unwrap();
         let error = String::from_utf8(output.stderr).unwrap();
         assert_eq!(output.status.code(), Some(status), "{words:?}: {error}");
-        assert!(error.is_empty() || (status == 1 && error.starts_with("slider: refusal ")), "{words:?}: {error}");
+        assert_eq!(error, "", "{words:?}");
     }
 }
 
@@ -75,32 +74,30 @@ fn broken_pipe() {
 fn closed_error() {
     assert_eq!(in_shell(r#"exec "$@" 2>&-"#, &["build", "x"]).status, Some(2));
     let ran = in_shell(r#"exec "$@" 2>&-"#, &["build", "1", "--slots", "0"]);
-    assert_eq!((ran.status, ran.out.lines().count()), (Some(1), 6));
-    assert_eq!(in_shell(r#"exec "$@" >&- 2>&-"#, &["build", "1"]).status, Some(2));
+    assert_eq!((ran.status, ran.out.lines().count()), (Some(1), 132));
+    assert_eq!(in_shell(r#"exec "$@" >&- 2>&-"#, &["build", "1"]).status, Some(0));
 }
 
+/// A standard input that is closed, or open and not for reading, is an empty one to Rust.
 #[test]
 fn closed_input() {
-    in_shell(r#"exec "$@" <&-"#, &["query"]).is_bad(&["cannot read the queries: standard input is closed"]);
-    in_shell(r#"exec "$@" <&-"#, &["audit"]).is_bad(&["cannot read standard input: standard input is closed"]);
-    in_shell(r#"exec "$@" <&-"#, &["build", "--multipliers", "-"]).is_bad(&["standard input is closed"]);
-    in_shell(r#"exec "$@" 0> /dev/null"#, &["audit"]).is_bad(&["cannot read standard input: "]);
-    let ran = in_shell(r#"exec "$@" 0> /dev/null"#, &["query"]);
-    assert_eq!((ran.out.as_str(), ran.status), ("slider 1\n", Some(2)));
-    assert_eq!(in_shell(r#"exec "$@" <&-"#, &["audit", "build-1.txt"]).out, "accepted reach 104960\n");
+    for shell in [r#"exec "$@" <&-"#, r#"exec "$@" 0> /dev/null"#] {
+        in_shell(shell, &["query"]).gives("slider 1\n", 0);
+        in_shell(shell, &["audit"]).is_bad(&["standard input, line 1, field outcome: the report ends before it"]);
+        in_shell(shell, &["audit", "build-1.txt"]).gives("accepted reach 104960\n", 0);
+    }
     let ran = in_shell(r#"exec "$@" < ."#, &["query"]);
     assert_eq!((ran.out.as_str(), ran.status), ("slider 1\n", Some(2)));
     ran.says(&["cannot read the queries"]);
 }
 
-/// Files without an end are not read to it, and long words are not echoed whole.
+/// A report without an end is not read to it, and long words are not echoed whole.
 #[test]
 fn without_end() {
-    slider("build --multipliers /dev/zero").is_bad(&["cannot read \"/dev/zero\": it is longer than any list of multipliers"]);
-    slider("audit /dev/zero").is_bad(&["cannot read \"/dev/zero\": it is longer than any report"]);
+    slider("audit /dev/zero").is_bad(&["cannot read /dev/zero: it is longer than any report"]);
     let long = "7".repeat(60_000);
-    let ran = slider_on(&["build", "--multipliers", "-"], long.as_bytes());
-    ran.is_bad(&["standard input, line 1: \"777", ".. (60000 bytes) is no number"]);
+    let ran = slider_on(&["build", "--multipliers", "/dev/stdin"], long.as_bytes());
+    ran.is_bad(&["\"/dev/stdin\", line 1: \"777", ".. (60000 bytes) is no number"]);
     assert!(ran.err.len() < 400, "{} bytes", ran.err.len());
     let ran = slider_on(&["audit"], format!("outcome {long}\n").as_bytes());
     ran.is_bad(&["line 1, field outcome: \"777"]);
@@ -123,24 +120,12 @@ fn long_words() {
         vec!["board", &long, "d4", "0000000000000000"],
         vec!["board", "R", &long, "0000000000000000"],
         vec!["board", "R", "d4", &long],
-        vec!["--help", &long],
         vec!["help", &long],
     ] {
         let ran = slider_on(&words, b"");
         ran.is_bad(&["xxx"]);
         assert!(ran.err.len() < 600, "{} bytes", ran.err.len());
     }
-}
-
-#[test]
-fn after_two_dashes() {
-    slider("build -- -1").is_bad(&["SEED: \"-1\" has a sign"]);
-    slider("build -- --help").is_bad(&["SEED: \"--help\" is no number"]);
-    slider("build --slots 0 -- 1 --json").is_bad(&["\"--json\" is one argument too many"]);
-    slider("rays -- R a1").gives("rays 01010101010101FE\n", 0);
-    slider("rays R -- a1").gives("rays 01010101010101FE\n", 0);
-    slider("audit -- build-1.txt").gives("accepted reach 104960\n", 0);
-    assert_eq!(slider("build --slots 0 -- 1").status, Some(1));
 }
 
 /// The name as any bytes but / and 0.

@@ -1,5 +1,7 @@
 //! The program `slider` itself, run on good and damaged arguments and input. Stored outputs are in tests/data: the reports were
 //! written by an independent builder, made from the rulebook by another hand.
+//!
+//! audit, build, query and usage hold what scripts rest on; the other files are about what came later.
 
 #[path = "../common/mod.rs"]
 mod common;
@@ -8,6 +10,10 @@ mod audit;
 mod build;
 mod by_hand;
 mod hostile;
+mod json;
+mod more;
+mod origins;
+mod out;
 mod query;
 mod usage;
 
@@ -29,13 +35,6 @@ impl Ran {
     #[track_caller]
     pub fn gives(&self, out: &str, status: i32) {
         assert_eq!((self.out.as_str(), self.err.as_str(), self.status), (out, "", Some(status)));
-    }
-
-    /// Status 4, nothing on standard output, and a message that has these words.
-    #[track_caller]
-    pub fn is_false(&self, words: &[&str]) {
-        assert_eq!((self.status, self.out.as_str()), (Some(4), ""), "{}", self.err);
-        self.says(words);
     }
 
     /// Status 2, nothing on standard output, and a message that has these words; never a panic.

@@ -6,7 +6,8 @@ use std::io::{Read, Write};
 fn stored_queries() {
     let example = b"R d4 000008000A000000\nB h1 0000000000004000\nQ a1 0000000000000000\n";
     let answer = "slider 1\nR d4 000008000A000000 00000808F6080808\nB h1 0000000000004000 0000000000004000\n?\n";
-    slider_on(&["query"], example).gives(answer, 0);
+    let ran = slider_on(&["query"], example);
+    assert_eq!((ran.out.as_str(), ran.err.as_str(), ran.status), (answer, "", Some(0)));
 
     let crates = std::path::Path::new(concat!(env!("CARGO_MANIFEST_DIR"), "/../crates/query"));
     let (input, output) =

@@ -1,7 +1,7 @@
 //! Words of the command line, and what they say.
 
 use crate::Command;
-use slider::{Bitboard, Kind, Square};
+use slider::{Kind, Square};
 use std::ffi::{OsStr, OsString};
 use std::os::unix::ffi::{OsStrExt, OsStringExt};
 use std::path::PathBuf;
@@ -112,9 +112,9 @@ impl Args {
 /// So many slots the program lends at most, for the table and for the marks: 128 MiB each.
 pub const MOST_SLOTS: u64 = 0x100_0000;
 
-/// A dash alone is a file, and a dash with a digit is a number, if a wrong one.
+/// A dash alone is a file.
 fn is_option(word: &OsStr) -> bool {
-    matches!(word.as_bytes(), [b'-', second, ..] if !second.is_ascii_digit())
+    word.len() > 1 && word.as_bytes()[0] == b'-'
 }
 
 /// `--name=value`
@@ -136,6 +136,14 @@ fn cut(text: &str) -> String {
     match text.char_indices().nth(ECHO) {
         Some((at, _)) => format!("{}.. ({} bytes)", &text[..at], text.len()),
         None => text.to_string(),
+    }
+}
+
+/// A name as it is, if it can be shown and is not long; else as a word in quotes.
+pub fn plain_or_quoted(word: &OsStr) -> String {
+    match word.to_str() {
+        Some(text) if text.len() <= ECHO && !text.chars().any(char::is_control) => text.to_string(),
+        _ => quoted(word),
     }
 }
 
@@ -171,12 +179,11 @@ pub fn number(text: &str) -> Result<u64, String> {
 }
 
 /// A set: 16 upper-case hexadecimal digits.
-pub fn set(text: &str) -> Result<Bitboard, String> {
+pub fn set(text: &str) -> Result<u64, String> {
     let digit = |byte: u8| byte.is_ascii_digit() || (b'A'..=b'F').contains(&byte);
     u64::from_str_radix(text, 16)
         .ok()
         .filter(|_| text.len() == 16 && text.bytes().all(digit))
-        .map(Bitboard)
         .ok_or_else(|| format!("{} is not 16 upper-case hexadecimal digits", quoted(text.as_ref())))
 }
 
@@ -216,7 +223,7 @@ mod tests {
 
     #[test]
     fn sets() {
-        assert_eq!(set("00000000000000FF"), Ok(Bitboard(255)));
+        assert_eq!(set("00000000000000FF"), Ok(255));
         for text in ["", "00000000000000ff", "0000000000000FF", "000000000000000FF", "+0000000000000FF", "000000000000 0FF"] {
             assert!(set(text).is_err(), "{text}");
         }
@@ -224,7 +231,7 @@ mod tests {
 
     #[test]
     fn squares_and_kinds() {
-        assert_eq!(square("h8"), Ok(Square::H8));
+        assert_eq!(square("h8").map(u8::from), Ok(63));
         for text in ["", "a", "a0", "a9", "i1", "A1", "a1 ", "a10", "é"] {
             assert!(square(text).is_err(), "{text}");
         }
@@ -238,6 +245,9 @@ mod tests {
     fn echoes_are_cut() {
         assert_eq!(quoted("a\n\x1b[1mé".as_ref()), r#""a\n\u{1b}[1mé""#);
         assert_eq!(quoted(OsStr::from_bytes(b"a\xFF")), r#""a\xFF""#);
+        assert_eq!(plain_or_quoted("a b\u{e9}".as_ref()), "a b\u{e9}");
+        assert_eq!(plain_or_quoted("a\n".as_ref()), r#""a\n""#);
+        assert_eq!(plain_or_quoted(OsStr::from_bytes(b"a\xFF")), r#""a\xFF""#);
         for length in [ECHO + 1, 3_000_000] {
             let text = quoted(OsStr::from_bytes(&vec![b'x'; length]));
             assert!(text.len() < ECHO + 30 && text.ends_with(&format!(".. ({length} bytes)")), "{text}");

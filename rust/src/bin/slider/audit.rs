@@ -4,52 +4,44 @@ use crate::args::Args;
 use crate::build::{from_seed, lent};
 use crate::facts::Json;
 use crate::input::Input;
-use crate::report::{Origin, Outcome, Report, Source};
-use crate::{output, say, Command, Done, Failure, Status};
+use crate::report::{Origin, Report, Source};
+use crate::{output, say, Command, Done, Failure, BAD};
 use slider::{ALL_SLOTS, MAX_BUDGET};
 
-pub const COMMAND: Command = Command {
-    name: "audit",
-    usage: "[FILE] [OPTIONS]",
-    about: "rebuilds the tables of a report and audits them",
-    help: "\
+pub const COMMAND: Command = Command { name: "audit", help: HELP, values: &["--slots", "--seed"], flags: &["--json"], run };
+
+const HELP: &str = "\
+slider audit [FILE] [--slots N]
+
 Reads a report of `slider build` from FILE, or from standard input where there is none or it is -, rebuilds the table from the
 report's multipliers, and audits the report's records over it: for each of the 107648 subsets the look-up has to be the walk.
-Where the report names its seed, or --seed does, the tables are built from that seed too, and every line of the report is held
-against that build: multipliers and attempt counts as well.
 
-  accepted reach N                         all holds, and the report agrees with the rebuilt tables
-  rebuilt from seed N budget N slots N marks N
-                                           the build that it agrees with, where the report or --seed names it
-  refused NUMBER [block BLOCK [subset I]]  the first fault, of the rebuilding or of the audit
+  accepted reach N                        all holds, and the report agrees with the rebuilt tables
+  refused NUMBER [block BLOCK [subset I]] the first fault, of the rebuilding or of the audit
 
-What the report says otherwise than the rebuilt tables have it is named on standard error, by line and field. Of a report that
-does not say what it came from, without --seed, attempt counts are not known: only attempts-max is held against its own lines.
+What the report says otherwise than the rebuilt tables have it (used, table-fnv, marks-fnv, mask, offset, shift) is named on
+standard error. Attempt counts cannot be told from multipliers; only attempts-max is held against the report's own lines.
 
-  --seed N    the seed that the report has to be of
-  --slots N   slots that the report was built with (those that it names, else 107648); both fnv depend on it
-  --json      writes the verdict as JSON
-",
-    values: &["--seed", "--slots"],
-    flags: &["--json"],
-    statuses: "0 accepted; 1 refused; 2 bad arguments, a report that cannot be read, or output that cannot be written;\n\
-        4 the records are right, and the report says something else that is not",
-    run,
-};
+  --slots N   slots that the report was built with (107648); both fnv depend on it
 
-/// A report has some 12 KB; what is longer is none.
-const LONGEST_REPORT: u64 = 65_536;
+Exit status: 0 accepted; 1 refused; 2 the report cannot be read, or its records are right and it says something else that is not.
+";
+
+/// A report has some 15 KB; what is longer is none.
+const LONGEST: u64 = 65_536;
 
 fn run(mut args: Args) -> Done {
     let input = Input::of(args.next());
-    let seed = args.number("--seed")?;
     let slots = args.slots("--slots")?;
+    let seed = args.number("--seed")?;
     let json = args.flag("--json");
     args.end()?;
-    output::needed()?;
 
     let name = input.name();
-    let report = Report::read(&input.read("report", LONGEST_REPORT)?).map_err(|error| format!("{name}, {error}"))?;
+    let report = Report::read(&input.read("report", LONGEST)?).map_err(|error| format!("{name}, {error}"))?;
+    if report.outcome.is_err() {
+        return Err(format!("{name}, line 1, field outcome: the report is of a refused build, which left no tables").into());
+    }
     let slots = slots.or(report.origin.map(|origin| origin.slots as usize)).unwrap_or(ALL_SLOTS);
 
     let (build, by_list, table) = lent(&report.multipliers(), slots, slots)?;
@@ -59,10 +51,8 @@ fn run(mut args: Args) -> Done {
     }
     let due = due(&report, seed, slots, by_list)?;
     let differences = match due.outcome {
-        Outcome::Built => report.differences(&due),
-        Outcome::Refused { .. } => {
-            vec!["line 1, field outcome: the report says ok, the build that it names is refused".to_string()]
-        }
+        Ok(()) => report.differences(&due),
+        Err(_) => vec!["line 1, field outcome: the report says ok, the build that it names is refused".to_string()],
     };
     said(&name, &differences);
     match slider::audit(&report.records, &table) {
@@ -70,7 +60,7 @@ fn run(mut args: Args) -> Done {
             say(&format!("{name}: {refusal}"));
             output::refused(refusal, json)
         }
-        Ok(audited) if differences.is_empty() => accepted(audited.reach(), due.origin, json),
+        Ok(reach) if differences.is_empty() => accepted(reach, due.origin, json),
         Ok(_) => {
             let build =
                 due.origin.map_or(format!("of their build with {slots} slots"), |origin| format!("of the build {origin}"));
@@ -123,5 +113,5 @@ fn falsified(differences: &[String], json: bool) -> Done {
         let list = differences.iter().cloned().map(Json::Text).collect();
         output::put(&format!("{}\n", Json::Object(vec![("false", Json::List(list))])))?;
     }
-    Ok(Status::False)
+    Ok(BAD)
 }

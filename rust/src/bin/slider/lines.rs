@@ -34,12 +34,13 @@ impl<'a> Lines<'a> {
         Ok(line)
     }
 
-    pub fn is_empty(&self) -> bool {
-        self.text.is_empty()
+    /// Whether the next line begins with this word.
+    pub fn begins(&self, word: &str) -> bool {
+        self.text.strip_prefix(word.as_bytes()).map_or(false, |rest| rest.starts_with(b" "))
     }
 
     pub fn end(&self) -> Result<(), String> {
-        if self.is_empty() {
+        if self.text.is_empty() {
             return Ok(());
         }
         Err(format!("line {}: the report is over, and more follows", self.number + 1))
@@ -87,7 +88,7 @@ impl<'a> Line<'a> {
     /// 16 upper-case hexadecimal digits.
     pub fn hex(&mut self, field: &str) -> Result<u64, String> {
         let word = self.word(field)?;
-        args::set(word).map(u64::from).map_err(|error| self.error(field, &error))
+        args::set(word).map_err(|error| self.error(field, &error))
     }
 
     pub fn labelled_hex(&mut self, label: &str) -> Result<u64, String> {

@@ -7,11 +7,11 @@ use crate::{output, Command, Done};
 use slider::pext::Table;
 use slider::{Kind, Square};
 
-pub const COMMAND: Command = Command {
-    name: "pext",
-    usage: "[R|B SQUARE [ENTRY]] [--json]",
-    about: "fills a PEXT table: its digest, a block, an entry",
-    help: "\
+pub const COMMAND: Command = Command { name: "pext", help: HELP, values: &[], flags: &["--json"], run };
+
+const HELP: &str = "\
+slider pext [R|B SQUARE [ENTRY]] [--json]
+
 Fills a PEXT table and writes FNV-1a, 64 bits, over its entries, little-endian; or where a block lies in it; or an entry of a block,
 with the subset of the mask that it stands for and the walk that it gives:
 
@@ -23,19 +23,16 @@ with the subset of the mask that it stands for and the walk that it gives:
     entry 129 subset 0000000000000102 walk 0000000000000102
 
   --json   writes the answer as JSON
-",
-    values: &[],
-    flags: &["--json"],
-    statuses: "0 done; 2 bad arguments, output that cannot be written, or no memory",
-    run,
-};
+
+Exit status: 0 done; 2 bad arguments, output that cannot be written, or no memory.
+";
 
 fn run(mut args: Args) -> Done {
     let piece = args.optional("piece", kind)?;
     let block = piece.map(|kind| Ok::<_, String>((kind, args.word("square", square)?))).transpose()?;
     let entry = args.optional("ENTRY", number)?;
     args.end()?;
-    let table = Table::fill().map_err(|error| error.to_string())?;
+    let table = Table::try_fill().map_err(|error| error.to_string())?;
     let facts = match (block, entry) {
         (None, _) => whole(&table),
         (Some((kind, square)), None) => place(&table, kind, square),
@@ -63,7 +60,7 @@ fn one(table: &Table, kind: Kind, square: Square, i: u64) -> Result<List, String
     let subset = slider::subset(kind, square, i);
     Ok(vec![
         ("entry", Value::Number((*entry).into())),
-        ("subset", Value::Set(subset.into())),
-        ("walk", Value::Set(table.moves(kind, square, subset).into())),
+        ("subset", Value::Set(subset)),
+        ("walk", Value::Set(table.moves(kind, square, subset))),
     ])
 }

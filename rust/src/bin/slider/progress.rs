@@ -1,6 +1,6 @@
 //! What a person at a terminal sees of long work, on standard error. Elsewhere nothing is written.
 
-use crate::os;
+use slider::is_terminal;
 use std::io::{self, Write};
 use std::sync::mpsc::{self, RecvTimeoutError};
 use std::thread;
@@ -16,7 +16,7 @@ fn show(text: &str) {
 
 /// Does the work. A build is one call of the library, so what can be shown meanwhile is the time that it has taken.
 pub fn shown<T>(what: &str, work: impl FnOnce() -> T) -> T {
-    if !os::is_terminal(2) {
+    if !is_terminal(2) {
         return work();
     }
     let (done, over) = mpsc::channel::<()>();
@@ -42,7 +42,7 @@ pub struct Lines {
 
 impl Lines {
     pub fn new() -> Lines {
-        let seen = os::is_terminal(2) && !os::is_terminal(1);
+        let seen = is_terminal(2) && !is_terminal(1);
         Lines { counted: 0, shown: seen.then(Instant::now) }
     }
 

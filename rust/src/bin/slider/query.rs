@@ -1,15 +1,15 @@
 //! `slider query`.
 
 use crate::args::{kind, set, square, Args};
-use crate::{input, output, progress, Command, Done, Failure, Status};
-use slider::{pext, walk, Bitboard, Error, Kind, Square, Tables};
-use std::io::{BufRead, BufReader, ErrorKind, Write};
+use crate::{output, progress, Command, Done, Failure, BAD, DIFFER, REFUSED};
+use slider::{pext, walk, Error, Kind, Square, Tables};
+use std::io::{self, BufRead, BufReader, ErrorKind, Write};
 
-pub const COMMAND: Command = Command {
-    name: "query",
-    usage: "[--seed N]",
-    about: "answers lines of queries",
-    help: "\
+pub const COMMAND: Command = Command { name: "query", help: HELP, values: &["--seed"], flags: &[], run };
+
+const HELP: &str = "\
+slider query [--seed N]
+
 Answers lines on standard input: R or B, a space, the square, a space, the blockers in 16 upper-case hexadecimal digits. After the
 header `slider 1` the answer is the line, a space and the attack set; any other line gives `?`.
 
@@ -22,37 +22,32 @@ Each query is answered three times: by the look-up in tables built from the seed
 Where the three differ, the program stops at that line and says so.
 
   --seed N   the seed of the tables (0)
-",
-    values: &["--seed"],
-    flags: &[],
-    statuses: "0 all lines answered; 1 the tables cannot be built; 2 bad arguments, input or output failed, or no memory;\n\
-        3 answers differ",
-    run,
-};
+
+Exit status: 0 all lines answered; 1 the tables cannot be built; 2 bad arguments, or input or output failed; 3 answers differ.
+";
 
 const HEADER: &[u8] = b"slider 1\n";
 const LINE: usize = 21;
 
-type Query = (Kind, Square, Bitboard);
+type Query = (Kind, Square, u64);
 
 fn run(mut args: Args) -> Done {
     let seed = args.number("--seed")?.unwrap_or(0);
     args.end()?;
-    let input = input::standard().map_err(|error| format!("cannot read the queries: {error}"))?;
-    let output = output::open()?;
-    let tables = progress::shown(&format!("building from seed {seed}"), || Tables::build(seed)).map_err(|error| Failure {
-        status: if matches!(error, Error::Refused(_)) { Status::Refused } else { Status::Bad },
-        message: format!("seed {seed}: {error}"),
-    })?;
-    let pext = pext::Table::fill().map_err(|error| error.to_string())?;
+    let tables =
+        progress::shown(&format!("building from seed {seed}"), || Tables::try_build(seed)).map_err(|error| Failure {
+            status: if matches!(error, Error::Refused(_)) { REFUSED } else { BAD },
+            message: format!("seed {seed}: {error}"),
+        })?;
+    let pext = pext::Table::try_fill().map_err(|error| error.to_string())?;
     let ask = |(kind, square, blockers): Query| {
-        let by_table = tables.moves(kind, square, blockers);
+        let by_table = tables.moves(kind, square, blockers).map_err(|refusal| format!("the tables refuse: {refusal}"))?;
         agreed(by_table, pext.moves(kind, square, blockers), walk(kind, square, blockers))
     };
-    answer_all(BufReader::with_capacity(1 << 16, input), output, ask)
+    answer_all(BufReader::with_capacity(1 << 16, io::stdin()), io::stdout().lock(), ask)
 }
 
-fn agreed(table: Bitboard, pext: Bitboard, walk: Bitboard) -> Result<Bitboard, String> {
+fn agreed(table: u64, pext: u64, walk: u64) -> Result<u64, String> {
     if table == walk && pext == walk {
         return Ok(walk);
     }
@@ -60,14 +55,14 @@ fn agreed(table: Bitboard, pext: Bitboard, walk: Bitboard) -> Result<Bitboard, S
 }
 
 /// Answers the lines of a stream, in memory of one line; what is answered is written before more input is awaited.
-fn answer_all(mut input: impl BufRead, mut output: impl Write, ask: impl Fn(Query) -> Result<Bitboard, String>) -> Done {
+fn answer_all(mut input: impl BufRead, mut output: impl Write, ask: impl Fn(Query) -> Result<u64, String>) -> Done {
     let mut lines = Lines { line: Vec::with_capacity(LINE + 1), out: HEADER.to_vec(), ask, progress: progress::Lines::new() };
     let mut more = Ok(true);
     loop {
         let read_on = output::write(&mut output, &lines.out)?;
         lines.out.clear();
-        if !more? || !read_on {
-            return Ok(Status::Done);
+        if !read_on || !more? {
+            return Ok(0);
         }
         more = match input.fill_buf() {
             Err(error) if error.kind() == ErrorKind::Interrupted => Ok(true),
@@ -91,7 +86,7 @@ struct Lines<F> {
     progress: progress::Lines,
 }
 
-impl<F: Fn(Query) -> Result<Bitboard, String>> Lines<F> {
+impl<F: Fn(Query) -> Result<u64, String>> Lines<F> {
     fn feed(&mut self, chunk: &[u8]) -> Result<bool, Failure> {
         for &byte in chunk {
             if byte == b'\n' {
@@ -117,7 +112,7 @@ impl<F: Fn(Query) -> Result<Bitboard, String>> Lines<F> {
             Some(query) => {
                 let moves = (self.ask)(query).map_err(|message| {
                     let message = format!("line {}: {message}", self.progress.counted());
-                    Failure { status: Status::Differ, message }
+                    Failure { status: DIFFER, message }
                 })?;
                 self.out.extend_from_slice(&self.line);
                 self.out.extend_from_slice(format!(" {moves:016X}\n").as_bytes());
@@ -140,7 +135,7 @@ fn query(line: &[u8]) -> Option<Query> {
 mod tests {
     use super::*;
 
-    fn answered(input: &[u8], step: usize, ask: impl Fn(Query) -> Result<Bitboard, String>) -> (Done, String) {
+    fn answered(input: &[u8], step: usize, ask: impl Fn(Query) -> Result<u64, String>) -> (Done, String) {
         let mut out = Vec::new();
         let done = answer_all(BufReader::with_capacity(step, input), &mut out, ask);
         (done, String::from_utf8(out).unwrap())
@@ -154,22 +149,20 @@ mod tests {
             format!("R a1 0000000000000000\n\nR a1 0000000000000000\r\n{long}\n R a1 000000000000000\nB b2 0000000000000001");
         let output = "slider 1\nR a1 0000000000000000 0000000000000007\n?\n?\n?\n?\nB b2 0000000000000001 0000000000000007\n";
         for step in [1, 2, 21, 22, 23, 1 << 16] {
-            let (done, out) = answered(input.as_bytes(), step, |_| Ok(Bitboard(7)));
-            assert_eq!((done.ok(), out.as_str()), (Some(Status::Done), output), "{step} bytes at a time");
+            let (done, out) = answered(input.as_bytes(), step, |_| Ok(7));
+            assert_eq!((done.ok(), out.as_str()), (Some(0), output), "{step} bytes at a time");
         }
-        assert_eq!(answered(b"", 1, |_| Ok(Bitboard(7))).1, "slider 1\n");
+        assert_eq!(answered(b"", 1, |_| Ok(7)).1, "slider 1\n");
     }
 
     #[test]
     fn a_difference_stops_at_its_line() {
-        let set = Bitboard;
-        assert_eq!(agreed(set(5), set(5), set(5)), Ok(set(5)));
+        assert_eq!(agreed(5, 5, 5), Ok(5));
         for (table, pext, walk) in [(4, 5, 5), (5, 4, 5), (5, 5, 4)] {
-            let differing = || agreed(set(table), set(pext), set(walk));
-            let ask = |(_, _, blockers)| if blockers == set(1) { differing() } else { Ok(set(0)) };
+            let ask = |(_, _, blockers)| if blockers == 1 { agreed(table, pext, walk) } else { Ok(0) };
             let (done, out) = answered(b"R a1 0000000000000000\nR a1 0000000000000001\nR a1 0000000000000000\n", 64, ask);
             let failure = done.unwrap_err();
-            assert_eq!(failure.status, Status::Differ);
+            assert_eq!(failure.status, DIFFER);
             assert!(failure.message.starts_with("line 2: answers differ: table 000000000000000"), "{}", failure.message);
             assert_eq!(out, "slider 1\nR a1 0000000000000000 0000000000000000\n");
         }
@@ -179,14 +172,14 @@ mod tests {
     fn a_reader_that_is_gone_is_no_failure_and_a_full_disk_is() {
         struct Broken(ErrorKind);
         impl Write for Broken {
-            fn write(&mut self, _: &[u8]) -> std::io::Result<usize> {
+            fn write(&mut self, _: &[u8]) -> io::Result<usize> {
                 Err(self.0.into())
             }
-            fn flush(&mut self) -> std::io::Result<()> {
+            fn flush(&mut self) -> io::Result<()> {
                 Ok(())
             }
         }
-        assert_eq!(answer_all(&b""[..], Broken(ErrorKind::BrokenPipe), |_| Ok(Bitboard(7))).ok(), Some(Status::Done));
-        assert_eq!(answer_all(&b""[..], Broken(ErrorKind::Other), |_| Ok(Bitboard(7))).unwrap_err().status, Status::Bad);
+        assert_eq!(answer_all(&b""[..], Broken(ErrorKind::BrokenPipe), |_| Ok(7)).ok(), Some(0));
+        assert_eq!(answer_all(&b""[..], Broken(ErrorKind::Other), |_| Ok(7)).unwrap_err().status, 2);
     }
 }

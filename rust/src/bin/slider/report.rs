@@ -1,17 +1,19 @@
 //! The report of a build: written by `slider build`, read again by `slider audit`.
 //!
-//! Scripts read its lines by their words and their order. New facts are lines of their own, after these.
+//! Scripts read its lines by their words and their order. What it came from and what made it are lines of their own, after these, where
+//! they are asked for.
 
 use crate::args::{quoted, MOST_SLOTS};
 use crate::facts::{Facts, Json, Value};
 use crate::lines::{Line, Lines};
-use slider::{Build, Identity, Record, Refusal, BLOCKS, IDENTITY};
+use slider::{Build, Identity, Record, BLOCKS, IDENTITY};
 use std::fmt;
 
 /// What a build came to, and what it came from.
 #[derive(Clone, Debug, PartialEq, Eq)]
 pub struct Report {
-    pub outcome: Outcome,
+    /// The refusal's number, and its block where it carries one.
+    pub outcome: Result<(), (u64, Option<u64>)>,
     used: u64,
     /// The largest attempt count, and the first block that has it.
     most: (u64, u64),
@@ -19,16 +21,10 @@ pub struct Report {
     marks_fnv: u64,
     pub records: [Record; BLOCKS],
     counts: [u64; BLOCKS],
-    /// `None` where the report does not tell: at first reports did not, and other builders' need not.
+    /// `None` where the report does not tell.
     pub origin: Option<Origin>,
     /// By what it was made.
     made: Option<String>,
-}
-
-#[derive(Clone, Copy, Debug, PartialEq, Eq)]
-pub enum Outcome {
-    Built,
-    Refused { number: u64, block: Option<u64> },
 }
 
 /// What a build came from.
@@ -74,16 +70,10 @@ fn most(counts: &[u64]) -> (u64, u64) {
     most
 }
 
-impl From<Refusal> for Outcome {
-    fn from(refusal: Refusal) -> Outcome {
-        Outcome::Refused { number: refusal.number().into(), block: refusal.block().map(|block| block as u64) }
-    }
-}
-
 impl Report {
     pub fn of(build: &Build, table: &[u64], marks: &[u64], source: Source) -> Report {
         Report {
-            outcome: build.outcome.map_or_else(Outcome::from, |()| Outcome::Built),
+            outcome: build.outcome.map_err(|refusal| (refusal.number().into(), refusal.block().map(|block| block as u64))),
             used: build.used as u64,
             most: most(&build.counts),
             table_fnv: fnv_of_slots(table),
@@ -93,6 +83,11 @@ impl Report {
             origin: Some(Origin { source, slots: table.len() as u64, marks: marks.len() as u64 }),
             made: Some(IDENTITY.to_string()),
         }
+    }
+
+    /// Without the lines of its origin.
+    pub fn alone(self) -> Report {
+        Report { origin: None, made: None, ..self }
     }
 
     pub fn multipliers(&self) -> [u64; BLOCKS] {
@@ -110,12 +105,6 @@ impl Report {
             ("attempts", Value::Number(self.counts[block])),
         ])
     }
-
-    /// A refused build has no blocks to tell of.
-    fn blocks(&self) -> impl Iterator<Item = Facts> + '_ {
-        let told = if self.outcome == Outcome::Built { BLOCKS } else { 0 };
-        (0..told).map(|block| self.block(block))
-    }
 }
 
 // ---- as text
@@ -123,14 +112,14 @@ impl Report {
 impl fmt::Display for Report {
     fn fmt(&self, f: &mut fmt::Formatter) -> fmt::Result {
         match self.outcome {
-            Outcome::Built => writeln!(f, "outcome ok")?,
-            Outcome::Refused { number, block: Some(block) } => writeln!(f, "outcome refused {number} block {block}")?,
-            Outcome::Refused { number, block: None } => writeln!(f, "outcome refused {number}")?,
+            Ok(()) => writeln!(f, "outcome ok")?,
+            Err((number, Some(block))) => writeln!(f, "outcome refused {number} block {block}")?,
+            Err((number, None)) => writeln!(f, "outcome refused {number}")?,
         }
         writeln!(f, "used {}", self.used)?;
         writeln!(f, "attempts-max {} block {}", self.most.0, self.most.1)?;
         writeln!(f, "table-fnv {:016X} marks-fnv {:016X}", self.table_fnv, self.marks_fnv)?;
-        self.blocks().try_for_each(|block| writeln!(f, "{block}"))?;
+        (0..BLOCKS).try_for_each(|block| writeln!(f, "{}", self.block(block)))?;
         self.origin.iter().try_for_each(|origin| writeln!(f, "{origin}"))?;
         self.made.iter().try_for_each(|made| writeln!(f, "made {made}"))
     }
@@ -160,8 +149,8 @@ impl fmt::Display for Origin {
 impl Report {
     pub fn json(&self) -> Json {
         let mut fields = match self.outcome {
-            Outcome::Built => vec![("outcome", Json::Text("ok".to_string()))],
-            Outcome::Refused { number, block } => vec![
+            Ok(()) => vec![("outcome", Json::Text("ok".to_string()))],
+            Err((number, block)) => vec![
                 ("outcome", Json::Text("refused".to_string())),
                 ("number", Json::Number(number)),
                 ("block", block.map_or(Json::Null, Json::Number)),
@@ -169,13 +158,14 @@ impl Report {
         };
         let (attempts, block) = self.most;
         let hex = |fnv| Json::Text(format!("{fnv:016X}"));
+        let told = if self.outcome.is_ok() { BLOCKS } else { 0 }; // a refused build has no blocks to tell of
         let attempts_max = Facts(vec![("attempts", Value::Number(attempts)), ("block", Value::Number(block))]);
         fields.extend([
             ("used", Json::Number(self.used)),
             ("attempts-max", attempts_max.json()),
             ("table-fnv", hex(self.table_fnv)),
             ("marks-fnv", hex(self.marks_fnv)),
-            ("blocks", Json::List(self.blocks().map(|block| block.json()).collect())),
+            ("blocks", Json::List((0..told).map(|block| self.block(block).json()).collect())),
             ("from", self.origin.map_or(Json::Null, |origin| origin.facts().json())),
             ("made", identity(&IDENTITY).json()),
         ]);
@@ -196,10 +186,10 @@ pub fn identity(identity: &Identity) -> Facts {
 // ---- read again
 
 impl Report {
-    /// Reads what `Display` writes of a build that succeeded, and nothing else.
+    /// Reads what `Display` writes, and nothing else. An error names the line and the field.
     pub fn read(text: &[u8]) -> Result<Report, String> {
         let mut lines = Lines::new(text);
-        read_outcome(lines.next("outcome")?)?;
+        let outcome = read_outcome(lines.next("outcome")?)?;
 
         let mut line = lines.next("used")?;
         let used = line.decimal("used")?;
@@ -229,27 +219,26 @@ impl Report {
         }
 
         let (mut origin, mut made) = (None, None);
-        if !lines.is_empty() {
+        if lines.begins("from") {
             origin = Some(read_origin(lines.next("from")?)?);
             made = Some(lines.next("made")?.rest());
         }
         lines.end()?;
-        Ok(Report { outcome: Outcome::Built, used, most, table_fnv, marks_fnv, records, counts, origin, made })
+        Ok(Report { outcome, used, most, table_fnv, marks_fnv, records, counts, origin, made })
     }
 }
 
-fn read_outcome(mut line: Line) -> Result<(), String> {
-    match line.word("outcome")? {
-        "ok" => line.end(),
+fn read_outcome(mut line: Line) -> Result<Result<(), (u64, Option<u64>)>, String> {
+    let outcome = match line.word("outcome")? {
+        "ok" => Ok(()),
         "refused" => {
-            line.decimal::<u64>("outcome")?;
-            if line.has_more() {
-                line.labelled::<u64>("block")?;
-            }
-            Err(line.error("outcome", "the report is of a refused build, which left no tables"))
+            let number = line.decimal("outcome")?;
+            Err((number, if line.has_more() { Some(line.labelled("block")?) } else { None }))
         }
-        word => Err(line.error("outcome", &format!("{} is neither ok nor refused", quoted(word.as_ref())))),
-    }
+        word => return Err(line.error("outcome", &format!("{} is neither ok nor refused", quoted(word.as_ref())))),
+    };
+    line.end()?;
+    Ok(outcome)
 }
 
 fn read_origin(mut line: Line) -> Result<Origin, String> {
@@ -314,15 +303,13 @@ mod tests {
     use super::*;
 
     fn some() -> Report {
-        let mut record = Record::default();
-        (record.multiplier, record.mask, record.offset, record.shift) = (1, 2, u32::MAX, 255);
         let mut report = Report {
-            outcome: Outcome::Built,
+            outcome: Ok(()),
             used: 107_648,
             most: (9, 3),
             table_fnv: u64::MAX,
             marks_fnv: 0xCBF2_9CE4_8422_2325,
-            records: [record; BLOCKS],
+            records: [Record { multiplier: 1, mask: 2, offset: u32::MAX, shift: 255 }; BLOCKS],
             counts: [7; BLOCKS],
             origin: None,
             made: None,
@@ -342,20 +329,24 @@ mod tests {
     fn fnv_of_known_bytes() {
         // published values of FNV-1a, 64 bits
         assert_eq!(fnv([]), 0xCBF2_9CE4_8422_2325);
+        assert_eq!(fnv_of_slots(&[]), 0xCBF2_9CE4_8422_2325);
+        let by_hand = b"foobar!?".iter().fold(0xCBF2_9CE4_8422_2325_u64, |h, &b| (h ^ b as u64).wrapping_mul(0x100_0000_01B3));
+        assert_eq!(fnv_of_slots(&[u64::from_le_bytes(*b"foobar!?")]), by_hand);
         assert_eq!(fnv(*b"foobar"), 0x8594_4171_F739_67E8);
         assert_eq!(fnv_of_slots(&[u64::from_le_bytes(*b"foobar!?")]), fnv(*b"foobar!?"));
     }
 
     #[test]
     fn reads_what_it_writes() {
+        for outcome in [Ok(()), Err((3, None)), Err((4, Some(127)))] {
+            for report in [some(), told()] {
+                let report = Report { outcome, ..report };
+                assert_eq!(Report::read(report.to_string().as_bytes()), Ok(report));
+            }
+        }
         let list = Origin { source: Source::List { length: 128, fnv: 5 }, slots: 0, marks: 1 };
         for report in [some(), told(), Report { origin: Some(list), ..told() }] {
             assert_eq!(Report::read(report.to_string().as_bytes()), Ok(report));
-        }
-        for outcome in [Outcome::Refused { number: 3, block: None }, Outcome::Refused { number: 4, block: Some(127) }] {
-            let text = Report { outcome, ..told() }.to_string();
-            assert_eq!(text.lines().count(), 6, "{text}");
-            assert!(Report::read(text.as_bytes()).unwrap_err().contains("a refused build"), "{text}");
         }
     }
 
@@ -408,7 +399,8 @@ mod tests {
                     assert!(read.map_or(true, |report| report.to_string().into_bytes() == damaged), "byte {byte} at {at}");
                 }
             }
-            assert!(Report::read(&[text, b"\n".to_vec()].concat()).unwrap_err().starts_with("line 13"));
+            let over = if report.origin.is_some() { "line 135:" } else { "line 133:" };
+            assert!(Report::read(&[text, b"\n".to_vec()].concat()).unwrap_err().starts_with(over));
         }
     }
 }

@@ -5,11 +5,11 @@ use crate::facts::{Facts, Value};
 use crate::{output, progress, say, Command, Done};
 use slider::MAX_BUDGET;
 
-pub const COMMAND: Command = Command {
-    name: "search",
-    usage: "R|B SQUARE SEED [OPTIONS]",
-    about: "searches the multiplier of one block",
-    help: "\
+pub const COMMAND: Command = Command { name: "search", help: HELP, values: &["--budget"], flags: &["--json"], run };
+
+const HELP: &str = "\
+slider search R|B SQUARE SEED [--budget N] [--json]
+
 Tries the seed's candidates for the block of a rook (R) or a bishop (B) on a square:
 
   found HEX attempts N   the first that passes, and its position from 1
@@ -20,12 +20,9 @@ Tries the seed's candidates for the block of a rook (R) or a bishop (B) on a squ
 
   --budget N   candidates tried (16777216, which is also the largest)
   --json       writes the answer as JSON
-",
-    values: &["--budget"],
-    flags: &["--json"],
-    statuses: "0 found; 1 refused; 2 bad arguments, or output that cannot be written",
-    run,
-};
+
+Exit status: 0 found; 1 refused; 2 bad arguments, or output that cannot be written.
+";
 
 fn run(mut args: Args) -> Done {
     let (kind, square) = args.block()?;
@@ -33,7 +30,6 @@ fn run(mut args: Args) -> Done {
     let budget = args.number("--budget")?.unwrap_or(MAX_BUDGET);
     let json = args.flag("--json");
     args.end()?;
-    output::needed()?;
     match progress::shown(&format!("searching from seed {seed}"), || slider::search(kind, square, seed, budget)) {
         Ok(found) => {
             let facts = vec![("found", Value::Set(found.multiplier)), ("attempts", Value::Number(found.count))];
