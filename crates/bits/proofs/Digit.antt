@@ -88,3 +88,7 @@ module _ (f : ℕ → ℕ) (digit : (t : ℕ) → f t < 2) where
 -- `1 << t`
 pub shl_one : (t : ℕ) → t < 64 → 1 * 2 ^ t % 2 ^ 64 ≡ 2 ^ t
 shl_one t h = shl_exact 1 t 64 (lit< tt) (omega arith) ∙ one-mul (2 ^ t)
+
+-- a shift by the width or more leaves nothing
+pub shifted_out : (x n : ℕ) → x < 2 ^ 64 → 64 ≤ n → x / 2 ^ n ≡ 0
+shifted_out x n h l = div-eq_of_lt (lt_of_lt_of_le h (pow_mono l))

@@ -22,6 +22,7 @@ pub fn wrapping_mul(a: u64, b: u64) -> u64
 }
 
 // A shift by 64 or more gives 0.
+#[tactic(auto, using(crate::proofs::Digit::shifted_out))]
 pub fn shift_right(x: u64, n: u64) -> u64
     ensures { result ≡ x / 2 ^ n }
 {

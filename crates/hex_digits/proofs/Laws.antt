@@ -56,6 +56,10 @@ more_lt n d i h l = rw pow-suc (omega arith)
 pub more_fits : (n d i : ℕ) → n < 16 ^ i → d < 16 → i < 16 → 16 * n + d < 2 ^ 64
 more_fits n d i h l k = lt_of_lt_of_le (more_lt n d i h l) (pow-le-pow_right (lit< tt) k)
 
+-- a number of fewer than 16 digits leaves room for another
+pub number_low : (n i : ℕ) → n < 16 ^ i → i < 16 → n < 2 ^ 60
+number_low n i h k = let most : i ≤ 15 = omega arith in lt_of_lt_of_le h (pow-le-pow_right (lit< tt) most)
+
 -- ---- writing
 
 -- the next digit is stored before those that stand already

@@ -16,6 +16,7 @@ pub enum Value {
 }
 
 // The value of one digit.
+#[tactic(auto, using(std::proofs::lemmas::Bool::Decides::nat_tests), unfolding(crate::specs::Hex::digit_of))]
 fn digit(byte: u8) -> Value
     ensures { result ≡ digit_of byte }
 {
@@ -36,6 +37,7 @@ fn digit(byte: u8) -> Value
 
 // The number that 16 bytes spell, most significant digit first; no number from another count of bytes or from a byte
 // that is no digit.
+#[tactic(auto, using(crate::proofs::Laws::digit_lt, crate::proofs::Laws::number_low))]
 pub fn read(bytes: &[u8]) -> Value
     ensures { result ≡ read_word bytes.now }
 {

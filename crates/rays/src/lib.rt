@@ -14,6 +14,7 @@ ghost use Rattle.board.specs.Blocks.{block_of, kind_of, square_of};
 use refusal::{Answer, Refusal};
 
 // The block of a kind and a square. Block number: bishop on s is s, rook on s is 64 + s. Refusal 1 before 2.
+#[tactic(auto, using(std::proofs::lemmas::Bool::Decides::nat_tests, board::proofs::Blocks::block_rook, board::proofs::Blocks::block_bishop))]
 pub fn block(kind: u8, sq: u8) -> Answer
     ensures { said result ≡ on_block kind sq (gives (block_of kind sq)) }
 {

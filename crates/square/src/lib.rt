@@ -114,6 +114,7 @@ pub fn right(sq: u8) -> Step
 }
 
 // Reads a name from the first two bytes; what follows is ignored.
+#[tactic(auto, using(std::proofs::lemmas::Bool::Decides::nat_tests))]
 pub fn from_str(name: &[u8]) -> Answer
     ensures { said result ≡ read_name name.now }
 {

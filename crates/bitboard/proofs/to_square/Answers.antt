@@ -14,9 +14,6 @@ returns-then-set-eq0 c = simp (eq-eqb _ _ c.if-set-eq0.true)
 some : (c : goal.Else-set-eq0) → zero < c.args.set
 some c = omega (arith, c.if-set-eq0.false)
 
-pub overflow_cast-least : goal.overflow_cast-least
-overflow_cast-least c = omega (arith, trailing_lt 64 c.args.set c.ranges.set.fits (some c))
-
 pub returns : goal.returns
 returns c =
     simp (ne_eqb _ _ c.if-set-eq0.false)

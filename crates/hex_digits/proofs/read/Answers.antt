@@ -30,16 +30,6 @@ returns-in_default c =
     (l.invariant.2 ∙ read_none l.number l.i c.args.bytes.now (omega arith)
     (sym c.digit.ensures ∙ c.in_default.is)))
 
-pub overflow_mul-number : goal.overflow_mul-number
-overflow_mul-number c =
-    let l = c.loop-i in
-    omega (arith, more_fits l.number 0 l.i l.invariant.1 (omega arith) (omega arith))
-
-pub overflow_add-number : goal.overflow_add-number
-overflow_add-number c =
-    let l = c.loop-i in
-    record { fits = more_fits l.number c.in-Is.d l.i l.invariant.1 (low c) (omega arith) }
-
 pub loop-i-preserved : goal.loop-i-preserved
 loop-i-preserved c =
     let l = c.loop-i in

@@ -35,7 +35,7 @@ pub returns-then-blockers-one-ne0 : goal.returns-then-blockers-one-ne0
 returns-then-blockers-one-ne0 c =
     let l = c.loop-n in
     let to = next c.args.kind c.args.direction l.at c.in-To.t c.requires.0 c.requires.1 l.invariant.1 c.in-To.ensures in
-    along_stop _ l.n _ _ _ l.set _ l.invariant.2 _ to.0 c.loop-n-test.true to.1 _ refl c.if-blockers-one-ne0.true
+    along_stop _ l.n _ _ _ l.set _ l.invariant.2 _ to.0 (omega arith) to.1 _ refl c.if-blockers-one-ne0.true
 
 pub loop-n-preserved : goal.loop-n-preserved
 loop-n-preserved c =
@@ -43,7 +43,7 @@ loop-n-preserved c =
     let to = next c.args.kind c.args.direction l.at c.in-To.t c.requires.0 c.requires.1 l.invariant.1 c.in-To.ensures in (
       omega arith,
       to.1,
-      along_on _ l.n _ _ _ l.set _ l.invariant.2 _ to.0 c.loop-n-test.true to.1 _ refl c.if-blockers-one-ne0.false,
+      along_on _ l.n _ _ _ l.set _ l.invariant.2 _ to.0 (omega arith) to.1 _ refl (omega arith),
     )
 
 pub returns : goal.returns
