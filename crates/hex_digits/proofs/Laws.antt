@@ -58,7 +58,7 @@ more_fits n d i h l k = lt_of_lt_of_le (more_lt n d i h l) (pow-le-pow_right (li
 
 -- a number of fewer than 16 digits leaves room for another
 pub number_low : (n i : ℕ) → n < 16 ^ i → i < 16 → n < 2 ^ 60
-number_low n i h k = let most : i ≤ 15 = omega arith in lt_of_lt_of_le h (pow-le-pow_right (lit< tt) most)
+number_low n i h k = omega (arith, more_fits n 0 i h (omega arith) k)
 
 -- ---- writing
 

@@ -37,7 +37,6 @@ fn digit(byte: u8) -> Value
 
 // The number that 16 bytes spell, most significant digit first; no number from another count of bytes or from a byte
 // that is no digit.
-#[tactic(auto, using(crate::proofs::Laws::digit_lt, crate::proofs::Laws::number_low))]
 pub fn read(bytes: &[u8]) -> Value
     ensures { result ≡ read_word bytes.now }
 {

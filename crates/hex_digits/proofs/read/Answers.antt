@@ -7,7 +7,7 @@ use lib.ListN.{get_or, drop_of_length-le}
 use borrow.Author.Tests.{eq-eqb, ne_eqb}
 use Rattle.hex_digits.specs.declared.Value.TheVariants.{Is}
 use Rattle.hex_digits.specs.Hex.{digit_of, read_after, read_word}
-use Rattle.hex_digits.proofs.Laws.{digit_lt, read_next, read_none, more_lt, more_fits}
+use Rattle.hex_digits.proofs.Laws.{digit_lt, read_next, read_none, more_lt, number_low}
 use Rattle.hex_digits.proofs.read.Goals as goal
 
 -- in a turn whose byte is a digit
@@ -29,6 +29,12 @@ returns-in_default c =
     (simp (eq-eqb _ _ c.if-bytes-ne16.false)
     (l.invariant.2 ∙ read_none l.number l.i c.args.bytes.now (omega arith)
     (sym c.digit.ensures ∙ c.in_default.is)))
+
+pub overflow_mul-number : goal.overflow_mul-number
+overflow_mul-number c = omega (arith, low c, number_low c.loop-i.number c.loop-i.i c.loop-i.invariant.1 (omega arith))
+
+pub overflow_add-number : goal.overflow_add-number
+overflow_add-number c = omega (arith, low c, number_low c.loop-i.number c.loop-i.i c.loop-i.invariant.1 (omega arith))
 
 pub loop-i-preserved : goal.loop-i-preserved
 loop-i-preserved c =
