@@ -230,6 +230,7 @@ pub enum Outcome {
 }
 
 // By the block's number: 10, then 5.
+#[tactic(auto, using(std::proofs::lemmas::Bool::Decides::nat_tests), unfolding(crate::specs::OneBlock::search_of))]
 fn search_block(block: usize, seed: u64, budget: u64) -> Outcome
     ensures { searched result ≡ search_of block seed budget }
 {

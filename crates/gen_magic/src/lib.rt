@@ -281,6 +281,7 @@ fn gen_from(source: Source, multipliers: &[u64], table: &mut [u64], marks: &mut 
 }
 
 // The build from a seed: 10, then 3.
+#[tactic(auto, using(std::proofs::lemmas::Bool::Decides::nat_tests), unfolding(crate::specs::Builds::from_seed))]
 pub fn gen_all_magic(seed: u64, budget: u64, table: &mut [u64], marks: &mut [u64]) -> Build
     ensures { leaves result table.new marks.new ≡ from_seed seed budget table.old marks.old }
 {

