@@ -5,3 +5,4 @@ pub mod Search
 pub mod Audited
 pub mod BuildExamples
 pub mod Examples
+pub mod Answered

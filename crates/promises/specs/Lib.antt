@@ -2,3 +2,4 @@ pub mod Demands
 pub mod Search
 pub mod Audited
 pub mod Examples
+pub mod Answered
