@@ -6,3 +6,6 @@ pub mod Audited
 pub mod BuildExamples
 pub mod Examples
 pub mod Answered
+pub mod EachSlot
+pub mod Slots
+pub mod RefusedAt

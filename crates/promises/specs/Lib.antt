@@ -3,3 +3,5 @@ pub mod Search
 pub mod Audited
 pub mod Examples
 pub mod Answered
+pub mod Slots
+pub mod RefusedAt
