@@ -9,3 +9,4 @@ pub mod Answered
 pub mod EachSlot
 pub mod Slots
 pub mod RefusedAt
+pub mod Queries

@@ -5,3 +5,4 @@ pub mod Examples
 pub mod Answered
 pub mod Slots
 pub mod RefusedAt
+pub mod Queries
