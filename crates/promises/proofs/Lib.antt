@@ -10,3 +10,4 @@ pub mod EachSlot
 pub mod Slots
 pub mod RefusedAt
 pub mod Queries
+pub mod Border

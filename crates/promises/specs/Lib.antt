@@ -6,3 +6,4 @@ pub mod Answered
 pub mod Slots
 pub mod RefusedAt
 pub mod Queries
+pub mod Border
