@@ -11,3 +11,4 @@ pub mod Slots
 pub mod RefusedAt
 pub mod Queries
 pub mod Border
+pub mod Exports

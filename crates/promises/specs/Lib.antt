@@ -7,3 +7,4 @@ pub mod Slots
 pub mod RefusedAt
 pub mod Queries
 pub mod Border
+pub mod Exports
