@@ -110,7 +110,7 @@ module _ (B : Blocks) (taken : ℕ → Taken) (value : ℕ → ℕ → ℕ) (con
           or_old _ (value n) j (content (after B taken n) j) t (B.size n)
           (ih (record { block = l.block; subset = l.subset; a_block = h; a_subset = l.a_subset; there = sym (old_slot n l.block l.subset h) ∙ l.there; has_it = l.has_it }))
 
-end_next : (B : Blocks) (n : ℕ) (s : State) (x : Taken) → (next B n s x).end ≡ max s.end (place B n s + B.size n)
+pub end_next : (B : Blocks) (n : ℕ) (s : State) (x : Taken) → (next B n s x).end ≡ max s.end (place B n s + B.size n)
 unfolding next
 end_next B n s x = refl
 

@@ -12,3 +12,6 @@ pub mod RefusedAt
 pub mod Queries
 pub mod Border
 pub mod Exports
+pub mod FirstBishops
+pub mod ThirdPlace
+pub mod Later

@@ -8,3 +8,4 @@ pub mod RefusedAt
 pub mod Queries
 pub mod Border
 pub mod Exports
+pub mod Later
