@@ -5,3 +5,13 @@ pub mod Search
 pub mod Audited
 pub mod BuildExamples
 pub mod Examples
+pub mod Answered
+pub mod EachSlot
+pub mod Slots
+pub mod RefusedAt
+pub mod Queries
+pub mod Border
+pub mod Exports
+pub mod FirstBishops
+pub mod ThirdPlace
+pub mod Later

@@ -2,3 +2,10 @@ pub mod Demands
 pub mod Search
 pub mod Audited
 pub mod Examples
+pub mod Answered
+pub mod Slots
+pub mod RefusedAt
+pub mod Queries
+pub mod Border
+pub mod Exports
+pub mod Later
