@@ -1,5 +1,4 @@
 pub mod Below
-pub mod Largest
 pub mod Digit
 pub mod Sets
 pub mod Complement

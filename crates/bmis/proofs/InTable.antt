@@ -45,6 +45,13 @@ by_table k s n b f e =
     ap (λ (z : Said ℕ). and_then z (λ m. f (kind_of m) (square_of m))) e
     ∙ table_then k s n (gives (block_of k s)) (λ m. f (kind_of m) (square_of m)) ∙ block_back k s (λ i j. of_length n (f i j))
 
+pub refused_table : {A B : Type 0} (k s n m : ℕ) (l : List ℕ) (x : A) (y : Said B) → refuses m l ≡ in_table k s n (gives x) → refuses m l ≡ in_table k s n y
+refused_table {A} k s n m l x y e = ap (λ (z : Said A). and_then z (λ _. y)) e ∙ table_then k s n (gives x) (λ _. y)
+
+-- the length is looked at once the block is known
+pub then_length : (k s n b : ℕ) (x : Said ℕ) → gives b ≡ on_block k s (gives (block_of k s)) → x ≡ of_length n (gives b) → x ≡ in_table k s n (gives (block_of k s))
+then_length k s n b x e q = q ∙ ap (λ (z : Said ℕ). and_then z (λ m. of_length n (gives m))) e ∙ block_then k s (gives (block_of k s)) (λ m. of_length n (gives m))
+
 -- what is given is in a table of the right length
 pub right_length : (k s n b c : ℕ) → gives b ≡ in_table k s n (gives c) → n ≡ 107648
 right_length k s n b c e = go (ltb 1 k) (ltb 63 s) (eqb n 107648) refl e

@@ -17,11 +17,6 @@ ghost use Rattle.lines.specs.Calls.{over, fitting, answered, fresh, line_of, pus
 use hex_digits::Value;
 use refusal::Answer;
 
-// The query program's buffers: a chunk of its input, and room for what a chunk makes written (`chunk_size`, `room_size`).
-pub const CHUNK: usize = 16384;
-
-pub const ROOM: usize = 32812;
-
 // What a line asks for.
 #[derive(Clone, Copy)]
 pub enum Query {
