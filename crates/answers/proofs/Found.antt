@@ -9,7 +9,7 @@ use lib.Dec.{lit<}
 use lib.ListN.{get_or}
 use Rattle.bits.specs.Set.{count, every}
 use Rattle.bits.specs.Shown.{shown}
-use Rattle.bits.proofs.Shown.{getD-shown}
+use Rattle.bits.proofs.Shown.{get_or_shown}
 use Rattle.refusal.specs.Paper.{gives}
 use Rattle.board.specs.Board.{mask, attack}
 use Rattle.board.specs.Blocks.{block_of, kind_of, square_of, size_of, shift_of, subset}
@@ -58,7 +58,7 @@ shared_are = refl
 
 -- what is listed is what the list has
 listed : (f : ℕ → ℕ) (l : List ℕ) → shown 32 f ≡ l → (i : ℕ) → i < 32 → f i ≡ get_or l i 0
-listed f l e i h = sym (getD-shown 32 i f 0 h) ∙ ap (λ (m : List ℕ). get_or m i 0) e
+listed f l e i h = sym (get_or_shown 32 i f 0 h) ∙ ap (λ (m : List ℕ). get_or m i 0) e
 
 module _ (i : ℕ) (h : i < 32) where
   subset_is : subset 1 1 i ≡ get_or subsets i 0

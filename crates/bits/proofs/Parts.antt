@@ -7,8 +7,8 @@ module _ {A : Type 0} where
   pub length_part : (from size : ℕ) (l : List A) → from + size ≤ length l → length (take size (drop from l)) ≡ size
   length_part from size l h = length-take-le size (drop from l) (omega (arith, length-drop from l))
 
-  pub get_d_part : (from size i : ℕ) (l : List A) (d : A) → i < size → get_or (take size (drop from l)) i d ≡ get_or l (from + i) d
-  get_d_part from size i l d h = get_or-take size (drop from l) i d h ∙ get_or-drop from l i d
+  pub get_or_part : (from size i : ℕ) (l : List A) (d : A) → i < size → get_or (take size (drop from l)) i d ≡ get_or l (from + i) d
+  get_or_part from size i l d h = get_or-take size (drop from l) i d h ∙ get_or-drop from l i d
 
   -- the front of the whole up to the part's end
   pub take_part : (from size : ℕ) (l part rest : List A) → from ≤ length l → length part ≡ size → take (from + size) (take from l ++ (part ++ rest)) ≡ take from l ++ part

@@ -3,24 +3,24 @@
 use Rattle.std.proofs.Common.{◌≡◌, ℕ, zero, suc, ◌+◌, ◌-◌, ◌<◌, ◌≤◌, List, [], ◌∷◌, ◌++◌, map, length, get_or, take, drop, set, replicate, sym, refl, ap, ◌∙◌, ap₂, suc-le-suc, le_of_eq, le_of_suc-le-suc, not-suc-le-zero, add-zero, add-suc, zero-lt-suc, add-one, arith, take_all, take-suc-set, ext_get_or}
 use Rattle.bits.specs.Shown.{shown, sum}
 
-pub shown-cong {ℓ} : {A : Type ℓ} (n : ℕ) (f g : ℕ → A) → ((i : ℕ) → i < n → f i ≡ g i) → shown n f ≡ shown n g
+pub shown_cong {ℓ} : {A : Type ℓ} (n : ℕ) (f g : ℕ → A) → ((i : ℕ) → i < n → f i ≡ g i) → shown n f ≡ shown n g
 unfolding shown
-shown-cong zero f g h = refl
-shown-cong (suc n) f g h = ap₂ ◌∷◌ (h zero (zero-lt-suc n)) (shown-cong n (λ i. f (suc i)) (λ i. g (suc i)) (λ i l. h (suc i) (suc-le-suc l)))
+shown_cong zero f g h = refl
+shown_cong (suc n) f g h = ap₂ ◌∷◌ (h zero (zero-lt-suc n)) (shown_cong n (λ i. f (suc i)) (λ i. g (suc i)) (λ i l. h (suc i) (suc-le-suc l)))
 
-pub map-shown {ℓ ℓ'} : {A : Type ℓ} {B : Type ℓ'} (f : A → B) (n : ℕ) (g : ℕ → A) → map f (shown n g) ≡ shown n (λ i. f (g i))
+pub map_shown {ℓ ℓ'} : {A : Type ℓ} {B : Type ℓ'} (f : A → B) (n : ℕ) (g : ℕ → A) → map f (shown n g) ≡ shown n (λ i. f (g i))
 unfolding shown
-map-shown f zero g = refl
-map-shown f (suc n) g = ap (λ l. f (g zero) ∷ l) (map-shown f n (λ i. g (suc i)))
+map_shown f zero g = refl
+map_shown f (suc n) g = ap (λ l. f (g zero) ∷ l) (map_shown f n (λ i. g (suc i)))
 
-pub length-shown {ℓ} : {A : Type ℓ} (n : ℕ) (f : ℕ → A) → length (shown n f) ≡ n
+pub length_shown {ℓ} : {A : Type ℓ} (n : ℕ) (f : ℕ → A) → length (shown n f) ≡ n
 unfolding shown
-length-shown zero f = refl
-length-shown (suc n) f = ap suc (length-shown n (λ i. f (suc i)))
+length_shown zero f = refl
+length_shown (suc n) f = ap suc (length_shown n (λ i. f (suc i)))
 
-take-zero {ℓ} : {A : Type ℓ} (l : List A) → take 0 l ≡ []
-take-zero [] = refl
-take-zero (x ∷ l) = refl
+take_zero {ℓ} : {A : Type ℓ} (l : List A) → take 0 l ≡ []
+take_zero [] = refl
+take_zero (x ∷ l) = refl
 
 -- ---- a loop that stores f 0, f 1, .. in turn
 
@@ -48,30 +48,30 @@ over_store i v l d f e h q =
 pub shown_whole : (n : ℕ) (l : List ℕ) (f : ℕ → ℕ) → length l ≡ n → take n l ≡ shown n f → l ≡ shown n f
 shown_whole n l f e q = sym (take_all n l (le_of_eq e)) ∙ q
 
-pub getD-shown {ℓ} : {A : Type ℓ} (n i : ℕ) (f : ℕ → A) (d : A) → i < n → get_or (shown n f) i d ≡ f i
+pub get_or_shown {ℓ} : {A : Type ℓ} (n i : ℕ) (f : ℕ → A) (d : A) → i < n → get_or (shown n f) i d ≡ f i
 unfolding shown
-getD-shown zero i f d h = absurd (not-suc-le-zero h)
-getD-shown (suc n) zero f d h = refl
-getD-shown (suc n) (suc i) f d h = getD-shown n i (λ j. f (suc j)) d (le_of_suc-le-suc h)
+get_or_shown zero i f d h = absurd (not-suc-le-zero h)
+get_or_shown (suc n) zero f d h = refl
+get_or_shown (suc n) (suc i) f d h = get_or_shown n i (λ j. f (suc j)) d (le_of_suc-le-suc h)
 
 -- the first values of more
-pub take-shown {ℓ} : {A : Type ℓ} (n m : ℕ) (f : ℕ → A) → n ≤ m → take n (shown m f) ≡ shown n f
+pub take_shown {ℓ} : {A : Type ℓ} (n m : ℕ) (f : ℕ → A) → n ≤ m → take n (shown m f) ≡ shown n f
 unfolding shown
-take-shown zero m f h = take-zero (shown m f)
-take-shown (suc n) zero f h = absurd (not-suc-le-zero h)
-take-shown (suc n) (suc m) f h = ap (λ l. f zero ∷ l) (take-shown n m (λ i. f (suc i)) (le_of_suc-le-suc h))
+take_shown zero m f h = take_zero (shown m f)
+take_shown (suc n) zero f h = absurd (not-suc-le-zero h)
+take_shown (suc n) (suc m) f h = ap (λ l. f zero ∷ l) (take_shown n m (λ i. f (suc i)) (le_of_suc-le-suc h))
 
 -- a list of n is shown by what stands at each place
-pub shown-list {ℓ} : {A : Type ℓ} (n : ℕ) (l : List A) (d : A) (f : ℕ → A) → length l ≡ n → ((i : ℕ) → i < n → get_or l i d ≡ f i) → l ≡ shown n f
-shown-list n l d f e h =
-    ext_get_or d l (shown n f) (e ∙ sym (length-shown n f))
-    (λ i lt. let low : i < n = omega (arith, e) in h i low ∙ sym (getD-shown n i f d low))
+pub shown_list {ℓ} : {A : Type ℓ} (n : ℕ) (l : List A) (d : A) (f : ℕ → A) → length l ≡ n → ((i : ℕ) → i < n → get_or l i d ≡ f i) → l ≡ shown n f
+shown_list n l d f e h =
+    ext_get_or d l (shown n f) (e ∙ sym (length_shown n f))
+    (λ i lt. let low : i < n = omega (arith, e) in h i low ∙ sym (get_or_shown n i f d low))
 
 -- a list of one value has it at each place, and past the end where it is the default
-pub getD-same {ℓ} : {A : Type ℓ} (n : ℕ) (a : A) (j : ℕ) → get_or (replicate n a) j a ≡ a
-getD-same zero a j = refl
-getD-same (suc n) a zero = refl
-getD-same (suc n) a (suc j) = getD-same n a j
+pub get_or_same {ℓ} : {A : Type ℓ} (n : ℕ) (a : A) (j : ℕ) → get_or (replicate n a) j a ≡ a
+get_or_same zero a j = refl
+get_or_same (suc n) a zero = refl
+get_or_same (suc n) a (suc j) = get_or_same n a j
 
 -- ---- sums
 

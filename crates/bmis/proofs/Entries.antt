@@ -15,7 +15,7 @@ use Rattle.bits.specs.Intel.{pext, pdep}
 use Rattle.bits.specs.Shown.{shown, sum}
 use Rattle.bits.proofs.Every.{every_at}
 use Rattle.bits.proofs.Pext.{extract_lt, deposit_extract}
-use Rattle.bits.proofs.Shown.{length-shown, getD-shown, sum_more, sum_mono}
+use Rattle.bits.proofs.Shown.{length_shown, get_or_shown, sum_more, sum_mono}
 use Rattle.board.specs.Board.{rays, mask, attack}
 use Rattle.board.specs.Blocks.{size_of, subset}
 use Rattle.board.specs.Crate.{answer}
@@ -50,7 +50,7 @@ unfolding entries_to sum
 length_entries zero = refl
 length_entries (suc p) =
     length-append (entries_to p) (shown (size_at p) (entry (p % 2) (p / 2)))
-    ∙ ap₂ (λ (a b : ℕ). a + b) (length_entries p) (length-shown (size_at p) (entry (p % 2) (p / 2)))
+    ∙ ap₂ (λ (a b : ℕ). a + b) (length_entries p) (length_shown (size_at p) (entry (p % 2) (p / 2)))
 
 entry_at : (p q i : ℕ) → q < p → i < size_at q → get_or (entries_to p) (sum q size_at + i) 0 ≡ entry (q % 2) (q / 2) i
 unfolding entries_to
@@ -61,7 +61,7 @@ entry_at (suc p) q i h l = go (λ k. entry_at p q i k l) (eq-or-lt_of_le (le_of_
     go ih (inl e) =
         ap (λ (n : ℕ). get_or (entries_to p ++ shown (size_at p) (entry (p % 2) (p / 2))) (n + i) 0) (ap (λ (n : ℕ). sum n size_at) e ∙ sym (length_entries p))
         ∙ get_or-append-add (entries_to p) (shown (size_at p) (entry (p % 2) (p / 2))) i 0
-        ∙ getD-shown (size_at p) i (entry (p % 2) (p / 2)) 0 (subst (λ (n : ℕ). i < size_at n) e l)
+        ∙ get_or_shown (size_at p) i (entry (p % 2) (p / 2)) 0 (subst (λ (n : ℕ). i < size_at n) e l)
         ∙ ap (λ (n : ℕ). entry (n % 2) (n / 2) i) (sym e)
     go ih (inr k) =
         get_or-append (entries_to p) (shown (size_at p) (entry (p % 2) (p / 2))) 0 (sum q size_at + i) (inside k) ∙ ih k

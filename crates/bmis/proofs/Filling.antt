@@ -9,7 +9,7 @@ use borrow.Rule.Slice.PartMut.{put_mid}
 use lib.ListN.{length, take, drop}
 use Rattle.bits.specs.Shown.{shown}
 use Rattle.bits.proofs.Parts.{length_part, take_part}
-use Rattle.bits.proofs.Shown.{length-shown}
+use Rattle.bits.proofs.Shown.{length_shown}
 use Rattle.board.specs.Blocks.{kind_of, square_of}
 use Rattle.bmis.specs.Bmis.{block_at, size_at, entry, entries_to}
 use Rattle.bmis.proofs.Sums.{kind_at, square_at}
@@ -24,5 +24,5 @@ module _ (p at size block k : ℕ) (xs ys : List ℕ) (low : p < 128) (ek : k �
   pub filled_turn : take (at + size) (put_mid at k xs ys) ≡ entries_to (p + 1)
   unfolding entries_to
   filled_turn =
-      take_part at size xs ys (drop k (drop at xs)) (omega arith) (ap length part_is ∙ length-shown (size_at p) (entry (p % 2) (p / 2)) ∙ sym es)
+      take_part at size xs ys (drop k (drop at xs)) (omega arith) (ap length part_is ∙ length_shown (size_at p) (entry (p % 2) (p / 2)) ∙ sym es)
       ∙ ap₂ (λ (a b : List ℕ). a ++ b) front part_is ∙ ap entries_to (sym (add-one p))

@@ -11,7 +11,7 @@ use lib.ListN.{length, get_or, take, drop, length-take, length-drop}
 use Rattle.refusal.specs.Paper.{Said, gives, refuses, refuse_if, and_then}
 use Rattle.refusal.proofs.Said.{gives_not}
 use Rattle.bits.specs.Intel.{pext, pdep}
-use Rattle.bits.proofs.Parts.{get_d_part}
+use Rattle.bits.proofs.Parts.{get_or_part}
 use Rattle.board.specs.Board.{rays, mask, on_block}
 use Rattle.board.specs.Blocks.{block_of, kind_of, square_of, size_of}
 use Rattle.board.proofs.Blocks.{block_then, block_back, kind_lt, square_lt}
@@ -83,7 +83,7 @@ pub look_part : (b blockers offset size k : ℕ) (table : List ℕ) → offset �
 unfolding look_up
 look_part b blockers offset size k table eo es ek =
     ap (λ (x : ℕ). pdep x (rays (kind_of b) (square_of b)))
-    (get_d_part offset k (pext blockers (mask (kind_of b) (square_of b))) table 0 (low (ek ∙ es) (index_lt (kind_of b) (square_of b) blockers))
+    (get_or_part offset k (pext blockers (mask (kind_of b) (square_of b))) table 0 (low (ek ∙ es) (index_lt (kind_of b) (square_of b) blockers))
     ∙ ap (λ (o : ℕ). get_or table (o + pext blockers (mask (kind_of b) (square_of b))) 0) eo)
   where
     low : {i m : ℕ} → k ≡ m → i < m → i < k

@@ -13,7 +13,7 @@ use Rattle.bits.specs.Shown.{shown}
 use Rattle.bits.proofs.Sets.{has_zero}
 use Rattle.bits.proofs.Every.{every_cong, every_true}
 use Rattle.bits.proofs.Algebra.{or_in, or_absorbs}
-use Rattle.bits.proofs.Shown.{length-shown}
+use Rattle.bits.proofs.Shown.{length_shown}
 use Rattle.board.specs.Board.{on_ray, rays, mask, between, clear, attack}
 use Rattle.board.specs.Blocks.{bits_of, size_of, subset}
 use Rattle.board.specs.Crate.{get_rays, magic_mask, questions, answers, or_all}
@@ -50,13 +50,13 @@ module _ (k s : ℕ) (hk : k < 2) (hs : s < 64) where
   -- the number of questions is a power of two
   pub questions_power : length (questions k s) ≡ 2 ^ bits_of k s
   unfolding size_of
-  questions_power = ap length (crate_questions k s hk hs) ∙ length-shown (size_of k s) (subset k s)
+  questions_power = ap length (crate_questions k s hk hs) ∙ length_shown (size_of k s) (subset k s)
 
   -- there are as many answers
   pub answers_as_many : length (answers k s) ≡ length (questions k s)
   answers_as_many =
-      ap length (crate_answers k s hk hs) ∙ length-shown (size_of k s) (λ i. attack k s (subset k s i))
-      ∙ sym (ap length (crate_questions k s hk hs) ∙ length-shown (size_of k s) (subset k s))
+      ap length (crate_answers k s hk hs) ∙ length_shown (size_of k s) (λ i. attack k s (subset k s i))
+      ∙ sym (ap length (crate_questions k s hk hs) ∙ length_shown (size_of k s) (subset k s))
 
   -- the questions' OR is the mask
   pub questions_or : or_all (questions k s) ≡ magic_mask k s

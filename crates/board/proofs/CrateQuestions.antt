@@ -18,7 +18,7 @@ use Rattle.bits.proofs.Sets.{bit_has, has_or, has_pow, has_zero, has_ext}
 use Rattle.bits.proofs.Algebra.{and_square}
 use Rattle.bits.proofs.Count.{count_ones, count_lt}
 use Rattle.bits.proofs.Every.{is_true}
-use Rattle.bits.proofs.Shown.{shown-cong, map-shown}
+use Rattle.bits.proofs.Shown.{shown_cong, map_shown}
 use Rattle.board.specs.Board.{mask, attack}
 use Rattle.board.specs.Blocks.{bits_of, size_of, subset}
 use Rattle.board.specs.Crate.{cond, collect, question, rays_to_questions, questions, answer, answers}
@@ -114,11 +114,11 @@ module _ (k s : ℕ) (hk : k < 2) (hs : s < 64) where
   crate_questions =
       ap rays_to_questions (crate_mask k s hk hs)
       ∙ ap (λ (n : ℕ). shown (2 ^ n) (question (collect (mask k s)) n)) (sym (count_ones (mask k s) (mask_lt k s)))
-      ∙ shown-cong (2 ^ count (mask k s)) (question (collect (mask k s)) (count (mask k s))) (subset k s) (λ i l. crate_question i)
+      ∙ shown_cong (2 ^ count (mask k s)) (question (collect (mask k s)) (count (mask k s))) (subset k s) (λ i l. crate_question i)
 
   -- `questions_and_answers`, answer by answer
   pub crate_answers : answers k s ≡ shown (size_of k s) (λ i. attack k s (subset k s i))
   unfolding answers
   crate_answers =
-      ap (map (answer k s)) crate_questions ∙ map-shown (answer k s) (size_of k s) (subset k s)
-      ∙ shown-cong (size_of k s) (λ i. answer k s (subset k s i)) (λ i. attack k s (subset k s i)) (λ i l. crate_answer k s (subset k s i) hk hs)
+      ap (map (answer k s)) crate_questions ∙ map_shown (answer k s) (size_of k s) (subset k s)
+      ∙ shown_cong (size_of k s) (λ i. answer k s (subset k s i)) (λ i. attack k s (subset k s i)) (λ i l. crate_answer k s (subset k s i) hk hs)

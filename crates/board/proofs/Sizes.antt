@@ -10,7 +10,8 @@ use Rattle.bits.specs.Set.{every}
 use Rattle.bits.specs.Shown.{sum}
 use Rattle.bits.proofs.Every.{both_l, both_r, every_at}
 use Rattle.board.specs.Board.{outer}
-use Rattle.board.specs.Blocks.{bits_of, rook_bits, size_of, shift_of}
+use Rattle.board.specs.Blocks.{kind_of, square_of, bits_of, rook_bits, size_of, shift_of}
+use Rattle.board.proofs.Blocks.{kind_lt, square_lt}
 
 rook_test : T (every 64 (λ s. eqb (bits_of 0 s) (rook_bits s)))
 unfolding every bits_of outer
@@ -65,6 +66,10 @@ module _ (k s : ℕ) (hk : k < 2) (hs : s < 64) where
   pub size_low : 32 ≤ size_of k s
   unfolding size_of
   size_low = pow_mono bits_low
+
+-- no block has more than 4,096 subsets
+pub block_size_high : (b : ℕ) → size_of (kind_of b) (square_of b) ≤ 4096
+block_size_high b = size_high (kind_of b) (square_of b) (kind_lt b) (square_lt b)
 
 -- "All blocks together: 102,400 rook and 5,248 bishop slots, 107,648."
 pub rook_slots : sum 64 (size_of 0) ≡ 102400

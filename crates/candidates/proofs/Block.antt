@@ -10,11 +10,11 @@ use lib.ListN.{get_or, take, replicate, length-replicate}
 use lib.Seq.{get_or-take}
 use Rattle.bits.specs.Set.{count}
 use Rattle.bits.specs.Shown.{shown}
-use Rattle.bits.proofs.Shown.{getD-shown, getD-same}
+use Rattle.bits.proofs.Shown.{get_or_shown, get_or_same}
 use Rattle.board.specs.Board.{mask}
 use Rattle.board.specs.Blocks.{kind_of, square_of, shift_of, subset}
 use Rattle.board.proofs.Blocks.{kind_lt, square_lt}
-use Rattle.board.proofs.Sizes.{size_high, shift_low, shift_high}
+use Rattle.board.proofs.Sizes.{block_size_high, shift_low, shift_high}
 use Rattle.packing.specs.Pack.{agree, clean, passes}
 use Rattle.packing.proofs.Agree.{agree_cong}
 use Rattle.blocks.specs.Real.{real, magic_index, skips}
@@ -23,7 +23,7 @@ use Rattle.candidates.specs.Trial.{Ready, Work, Empty, slot_at, value_at, passin
 
 -- what stands at the front of a list
 front : (n : ℕ) (l : List ℕ) (f : ℕ → ℕ) → take n l ≡ shown n f → (i : ℕ) → i < n → get_or l i 0 ≡ f i
-front n l f e i h = sym (get_or-take n l i 0 h) ∙ ap (λ (x : List ℕ). get_or x i 0) e ∙ getD-shown n i f 0 h
+front n l f e i h = sym (get_or-take n l i 0 h) ∙ ap (λ (x : List ℕ). get_or x i 0) e ∙ get_or_shown n i f 0 h
 
 module _ (b size shift : ℕ) (questions answers : List ℕ) (es : size ≡ real.size b) (eh : shift ≡ shift_of (kind_of b) (square_of b)) (r : Ready b questions answers) where
   value_is : (i : ℕ) → i < real.size b → value_at answers i ≡ real.walk b i
@@ -38,7 +38,7 @@ module _ (b size shift : ℕ) (questions answers : List ℕ) (es : size ≡ real
   unfolding value_at
   work =
       record {
-        size_most = omega (arith, size_high (kind_of b) (square_of b) (kind_lt b) (square_lt b));
+        size_most = omega (arith, block_size_high b);
         shift_least = omega (arith, shift_low (kind_of b) (square_of b) (kind_lt b) (square_lt b));
         shift_most = omega (arith, shift_high (kind_of b) (square_of b) (kind_lt b) (square_lt b));
         some = λ i h e. walk_some b i (sym (value_is i (omega arith)) ∙ e);
@@ -57,4 +57,4 @@ module _ (b size shift : ℕ) (questions answers : List ℕ) (es : size ≡ real
 -- ---- trial slots as they are made
 
 pub empty_zeros : Empty (replicate 4096 0)
-empty_zeros = record { long = length-replicate {A = ℕ} 4096 0; free = getD-same 4096 0 }
+empty_zeros = record { long = length-replicate {A = ℕ} 4096 0; free = get_or_same 4096 0 }

@@ -14,7 +14,7 @@ use lib.Dec.{eqb}
 use lib.ListN.{length, get_or, set, take, drop, get_or-append}
 use lib.Seq.{get_or-set_same, get_or-set_other, get_or-take, get_or-drop, get_or-append-add, length-take-le}
 use Rattle.bits.specs.Set.{pick}
-use Rattle.bits.proofs.Parts.{length_part, get_d_part}
+use Rattle.bits.proofs.Parts.{length_part, get_or_part}
 use Rattle.packing.specs.Pack.{or_into, put}
 use Rattle.packing.proofs.Slots.{put_same, put_other, or_missed, or_shift}
 use Rattle.gen_magic.specs.Builds.{slots}
@@ -22,8 +22,8 @@ use Rattle.gen_magic.specs.Turn.{ored}
 
 -- ---- a store
 
-pub get_d_put : {A : Type 0} (l : List A) (i : ℕ) (v d : A) (j : ℕ) → i < length l → get_or (set l i v) j d ≡ put i v (λ k. get_or l k d) j
-get_d_put {A} l i v d j h = go (ℕ_discrete i j)
+pub get_or_put : {A : Type 0} (l : List A) (i : ℕ) (v d : A) (j : ℕ) → i < length l → get_or (set l i v) j d ≡ put i v (λ k. get_or l k d) j
+get_or_put {A} l i v d j h = go (ℕ_discrete i j)
   where
     go : Dec (i ≡ j) → get_or (set l i v) j d ≡ put i v (λ k. get_or l k d) j
     go (yes e) =
@@ -83,7 +83,7 @@ module _ (slot value : ℕ → ℕ) (size place k : ℕ) (xs ys : List ℕ) (ek 
   inside : (i : ℕ) → i < size → Now (place + i)
   inside i l =
       behind i ∙ get_or-append ys rest 0 i (omega (arith, as_many)) ∙ ap (λ (f : ℕ → ℕ). f i) part
-      ∙ ap (or_into slot value size i) (get_d_part place k i xs 0 (omega arith))
+      ∙ ap (or_into slot value size i) (get_or_part place k i xs 0 (omega arith))
       ∙ sym (or_shift slot value i (get_or xs (place + i) 0) place size)
 
   after : (i : ℕ) → Now (place + (size + i))

@@ -17,7 +17,7 @@ use Rattle.gen_magic.specs.declared.Record.{Record}
 use Rattle.gen_magic.specs.declared.Source.{Source}
 use Rattle.gen_magic.specs.Builds.{slots, record_at, no_record, record_in}
 use Rattle.gen_magic.specs.Turn.{ored, choice_by, why_of}
-use Rattle.gen_magic.proofs.Loans.{get_d_put}
+use Rattle.gen_magic.proofs.Loans.{get_or_put}
 use Rattle.gen_magic.proofs.Turns.{Goes}
 use Rattle.gen_magic.proofs.Sofar.{state_of, Own, run_to, Sofar}
 
@@ -33,7 +33,7 @@ module _ {source : Source} {l : List ℕ} {len b : ℕ} {table marks : List ℕ}
   taken₀ = (state_of table marks records counts end).taken
 
   record_now : (j : ℕ) → record_in (set records b made) j ≡ put b made records₀ j
-  record_now j = get_d_put records b made no_record j (omega (arith, h.records_long))
+  record_now j = get_or_put records b made no_record j (omega (arith, h.records_long))
 
   own_now : (j : ℕ) → j < b + 1 → Own j (record_in (set records b made) j)
   own_now j low = subst (Own j) (sym (record_now j)) (go (ℕ_discrete b j))
@@ -57,7 +57,7 @@ module _ {source : Source} {l : List ℕ} {len b : ℕ} {table marks : List ℕ}
       ∙ sym (put_map (λ (t : Taken). t.multiplier) b x taken₀ j)
 
   count_now : (j : ℕ) → get_or (set counts b x.count) j 0 ≡ (put b x taken₀ j).count
-  count_now j = get_d_put counts b x.count 0 j (omega (arith, h.counts_long)) ∙ sym (put_map (λ (t : Taken). t.count) b x taken₀ j)
+  count_now j = get_or_put counts b x.count 0 j (omega (arith, h.counts_long)) ∙ sym (put_map (λ (t : Taken). t.count) b x taken₀ j)
 
   state_now : next real b (state_of table marks records counts end) x ≡ state_of table' marks' (set records b made) (set counts b x.count) end'
   unfolding next hit place

@@ -7,7 +7,7 @@ use native.Mathlib.Nat.{not-suc-le-zero}
 use native.Mathlib.Omega.{arith}
 use lib.ListN.{length, get_or, replicate, length-replicate}
 use Rattle.bits.specs.Shown.{sum}
-use Rattle.bits.proofs.Shown.{getD-same, shown-list, sum_within}
+use Rattle.bits.proofs.Shown.{get_or_same, shown_list, sum_within}
 use Rattle.refusal.specs.declared.Refusal.{Refusal}
 use Rattle.refusal.specs.Paper.{gives, number_of, values_of}
 use Rattle.packing.specs.Pack.{State, done, refused, run, seed_build, lent_build, first_free, place}
@@ -63,11 +63,11 @@ module _ {source : Source} {l : List ℕ} {len : ℕ} where
       record {
         ran =
             λ i. done (record {
-              table = fun_ext (λ j. sym (ap (λ (x : List ℕ). get_or x j 0) et ∙ getD-same len 0 j)) i;
-              marks = fun_ext (λ j. sym (ap (λ (x : List ℕ). get_or x j 0) em ∙ getD-same len 0 j)) i;
+              table = fun_ext (λ j. sym (ap (λ (x : List ℕ). get_or x j 0) et ∙ get_or_same len 0 j)) i;
+              marks = fun_ext (λ j. sym (ap (λ (x : List ℕ). get_or x j 0) em ∙ get_or_same len 0 j)) i;
               end = 0;
-              offset = fun_ext (λ j. sym (ap (λ (r : Record). r.offset) (getD-same 128 no_record j))) i;
-              taken = fun_ext (λ j. sym (ap₂ (λ (r : Record) (c : ℕ). record { multiplier = r.multiplier; count = c }) (getD-same 128 no_record j) (getD-same 128 0 j))) i;
+              offset = fun_ext (λ j. sym (ap (λ (r : Record). r.offset) (get_or_same 128 no_record j))) i;
+              taken = fun_ext (λ j. sym (ap₂ (λ (r : Record) (c : ℕ). record { multiplier = r.multiplier; count = c }) (get_or_same 128 no_record j) (get_or_same 128 0 j))) i;
             });
         own = λ j h. absurd (not-suc-le-zero h);
         table_long = ap length et ∙ length-replicate {A = ℕ} len 0;
@@ -112,9 +112,9 @@ module _ {source : Source} {l : List ℕ} {len : ℕ} where
       shown_all =
           λ i. record {
             says = gives tt;
-            records = shown-list 128 records no_record (λ b. record_at b (record_in records b).multiplier (record_in records b).offset) h.records_long (λ j low. h.own j (omega (arith, e))) i;
-            counts = shown-list 128 counts 0 (slots counts) h.counts_long (λ _ _. refl) i;
+            records = shown_list 128 records no_record (λ b. record_at b (record_in records b).multiplier (record_in records b).offset) h.records_long (λ j low. h.own j (omega (arith, e))) i;
+            counts = shown_list 128 counts 0 (slots counts) h.counts_long (λ _ _. refl) i;
             used = end;
-            table = shown-list len table 0 (slots table) h.table_long (λ _ _. refl) i;
-            marks = shown-list len marks 0 (slots marks) h.marks_long (λ _ _. refl) i;
+            table = shown_list len table 0 (slots table) h.table_long (λ _ _. refl) i;
+            marks = shown_list len marks 0 (slots marks) h.marks_long (λ _ _. refl) i;
           }

@@ -10,7 +10,7 @@ use lib.Dec.{eqb, ltb}
 use lib.ListN.{length, replicate, get_or-eq_default}
 use Rattle.refusal.specs.Paper.{gives}
 use Rattle.bits.specs.Shown.{shown}
-use Rattle.bits.proofs.Shown.{getD-same, getD-shown, length-shown}
+use Rattle.bits.proofs.Shown.{get_or_same, get_or_shown, length_shown}
 use Rattle.board.specs.Blocks.{kind_of, square_of, size_of}
 use Rattle.board.proofs.Blocks.{on_block_lem}
 use Rattle.board.proofs.Attack.{walk_attack}
@@ -82,14 +82,14 @@ abbrev Low : ℕ → ℕ → List Record → Type 0
 Low b used records = (record_in records b).offset < 2 ^ 32
 
 no_offset : (b : ℕ) → Low b 0 (replicate 128 no_record)
-no_offset b = subst (λ (r : Record). r.offset < 2 ^ 32) (sym (getD-same 128 no_record b)) (omega arith)
+no_offset b = subst (λ (r : Record). r.offset < 2 ^ 32) (sym (get_or_same 128 no_record b)) (omega arith)
 
 offset_low : (s : State) → ((b : ℕ) → b < 128 → s.offset b < 2 ^ 32) → (b : ℕ) → Low b s.end (shown 128 (record_of s))
 offset_low s h b = go (dec_lt b 128)
   where
     go : Dec (b < 128) → Low b s.end (shown 128 (record_of s))
-    go (yes l) = subst (λ (r : Record). r.offset < 2 ^ 32) (sym (getD-shown 128 b (record_of s) no_record l)) (h b l)
-    go (no g) = subst (λ (r : Record). r.offset < 2 ^ 32) (sym (get_or-eq_default (shown 128 (record_of s)) no_record (omega (arith, g, length-shown 128 (record_of s))))) (omega arith)
+    go (yes l) = subst (λ (r : Record). r.offset < 2 ^ 32) (sym (get_or_shown 128 b (record_of s) no_record l)) (h b l)
+    go (no g) = subst (λ (r : Record). r.offset < 2 ^ 32) (sym (get_or-eq_default (shown 128 (record_of s)) no_record (omega (arith, g, length_shown 128 (record_of s))))) (omega arith)
 
 pub limits : Limits
 limits =

@@ -9,7 +9,7 @@ use lib.Dec.{eqb, lit<}
 use lib.ListN.{length}
 use Rattle.refusal.specs.Paper.{Said, refuses}
 use Rattle.refusal.proofs.Said.{gives_not}
-use Rattle.bits.proofs.Shown.{getD-shown}
+use Rattle.bits.proofs.Shown.{get_or_shown}
 use Rattle.splitmix.specs.SplitMix.{candidate}
 use Rattle.packing.specs.Pack.{State, Outcome, done, refused, seed_build}
 use Rattle.packing.specs.Promised.{after, taken_by}
@@ -51,7 +51,7 @@ on_top seed budget table marks e =
     at : (s : State) → from_seed seed budget table marks ≡ ended (length table) (done s) → (b : ℕ) → b < 128 → offset_at (from_seed seed budget table marks) b ≡ s.offset b
     at s q b h =
         ap (λ (l : Left). offset_at l b) q
-        ∙ ap (λ (r : Record). r.offset) (getD-shown 128 b (record_of s) no_record h)
+        ∙ ap (λ (r : Record). r.offset) (get_or_shown 128 b (record_of s) no_record h)
 
 -- the largest budget, and one above
 pub taken_at_the_limit : (seed : ℕ) (table marks : List ℕ) → (from_seed seed 16777216 table marks).says ≡ refuses 10 [] → ⊥

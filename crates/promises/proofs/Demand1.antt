@@ -40,7 +40,7 @@ refused_if : {A : Type 0} {c : Bool} (n : ℕ) (x : Said A) → c ≡ true → r
 refused_if n x e = ap (λ (c : Bool). refuse_if c n x) e
 
 -- zeros beside a refusal, field by field
-zeros : {left : Left} {number : ℕ} {values table marks : List ℕ} → left ≡ empty number values table marks → Refused left number values table marks
+pub zeros : {left : Left} {number : ℕ} {values table marks : List ℕ} → left ≡ empty number values table marks → Refused left number values table marks
 zeros e =
     record {
       says = ap (λ (l : Left). l.says) e;

@@ -9,7 +9,7 @@ use borrow.Author.Tests.{eq-eqb}
 use lib.ListN.{length}
 use Rattle.refusal.specs.Paper.{gives, refuse_if}
 use Rattle.bits.specs.Shown.{shown}
-use Rattle.bits.proofs.Shown.{getD-shown}
+use Rattle.bits.proofs.Shown.{get_or_shown}
 use Rattle.board.specs.Board.{attack}
 use Rattle.board.proofs.Blocks.{on_block_lem}
 use Rattle.board.proofs.Attack.{walk_attack}
@@ -86,9 +86,9 @@ of_block : (left : Left) (len : ℕ) (taken : ℕ → Taken) → left ≡ ended 
 of_block left len taken e b h =
     let s : State = after real taken 128 in
     let t : s.taken b ≡ taken b = after_taken real taken 128 b h in (
-      ap (λ (l : Left). record_in l.records b) e ∙ getD-shown 128 b (record_of s) no_record h
+      ap (λ (l : Left). record_in l.records b) e ∙ get_or_shown 128 b (record_of s) no_record h
           ∙ ap₂ (λ (x : Taken) (o : ℕ). record_at b x.multiplier o) t (after_offset real taken 128 b h),
-      ap (λ (l : Left). slots l.counts b) e ∙ getD-shown 128 b (λ b. (s.taken b).count) 0 h ∙ ap (λ (x : Taken). x.count) t,
+      ap (λ (l : Left). slots l.counts b) e ∙ get_or_shown 128 b (λ b. (s.taken b).count) 0 h ∙ ap (λ (x : Taken). x.count) t,
     )
 
 module _ (multipliers table marks : List ℕ) (h : length multipliers ≡ 128) (e : length table ≡ length marks) where

@@ -8,7 +8,7 @@ use native.Mathlib.Omega.{arith}
 use native.Mathlib.Decide.{dec_lt}
 use lib.ListN.{length, take, get_or-eq_default}
 use Rattle.bits.specs.Shown.{shown}
-use Rattle.bits.proofs.Shown.{length-shown, getD-shown, take-shown}
+use Rattle.bits.proofs.Shown.{length_shown, get_or_shown, take_shown}
 use Rattle.splitmix.specs.SplitMix.{candidate}
 use Rattle.packing.specs.Pack.{State, done, seed_build}
 use Rattle.packing.specs.Promised.{Right, most_attempts}
@@ -24,18 +24,18 @@ use Rattle.promises.specs.Demands.{Succeeds, Allowed, Same, largest_count, Deman
 -- ---- what one state leaves in two lengths
 
 largest_is : (len : ℕ) (s : State) → largest_count (ended len (done s)) ≡ most_attempts s
-largest_is len s = largest_cong 128 _ (λ b. (s.taken b).count) (λ b h. getD-shown 128 b (λ b. (s.taken b).count) 0 h)
+largest_is len s = largest_cong 128 _ (λ b. (s.taken b).count) (λ b h. get_or_shown 128 b (λ b. (s.taken b).count) 0 h)
 
 -- a slot past those used
 after_zero : (len end : ℕ) (f : ℕ → ℕ) → ((j : ℕ) → end ≤ j → f j ≡ 0) → (j : ℕ) → end ≤ j → slots (shown len f) j ≡ 0
 after_zero len end f h j l = go (dec_lt j len)
   where
     go : Dec (j < len) → slots (shown len f) j ≡ 0
-    go (yes k) = getD-shown len j f 0 k ∙ h j l
-    go (no k) = get_or-eq_default (shown len f) 0 (omega (arith, length-shown len f, k))
+    go (yes k) = get_or_shown len j f 0 k ∙ h j l
+    go (no k) = get_or-eq_default (shown len f) 0 (omega (arith, length_shown len f, k))
 
 same_used : (len len' end : ℕ) (f : ℕ → ℕ) → end ≤ len → end ≤ len' → take end (shown len' f) ≡ take end (shown len f)
-same_used len len' end f h h' = take-shown end len' f h' ∙ sym (take-shown end len f h)
+same_used len len' end f h h' = take_shown end len' f h' ∙ sym (take_shown end len f h)
 
 same : (len len' : ℕ) (s : State) → Right real len s → Right real len' s → Same (ended len (done s)) (ended len' (done s))
 same len len' s h h' =

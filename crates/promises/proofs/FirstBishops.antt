@@ -1,7 +1,7 @@
 -- The first two bishops' blocks, computed over listed subsets, walks and slots: which of some multipliers are clean there.
 -- Assumes nothing.
 use Prim.Native.Nat.{ℕ, ◌<◌}
-use mathlib.Core.Path.{◌≡◌, refl, sym, ap, ◌∙◌, subst}
+use mathlib.Core.Path.{◌≡◌, refl, sym, ◌∙◌, subst}
 use mathlib.Core.Bool.{true, false}
 use mathlib.Core.List.{List, [], ◌∷◌}
 use borrow.Author.Tests.{eqb-true, eqb-false}
@@ -11,33 +11,13 @@ use Rattle.bits.specs.Set.{every, least, count}
 use Rattle.bits.proofs.Every.{every_at}
 use Rattle.bits.proofs.Least.{least_passes}
 use Rattle.bits.specs.Shown.{shown}
-use Rattle.bits.proofs.Shown.{getD-shown}
 use Rattle.board.specs.Board.{mask, attack}
 use Rattle.board.specs.Blocks.{kind_of, square_of, size_of, shift_of, subset}
 use Rattle.packing.specs.Pack.{destructive, agree, clean}
-use Rattle.packing.proofs.Agree.{agree_fails, agree_cong}
+use Rattle.packing.proofs.Agree.{agree_fails}
 use Rattle.packing.proofs.Slots.{Hit}
 use Rattle.blocks.specs.Real.{magic_index, skips, real}
-
--- what is listed is what the list has
-listed : (n : ℕ) (f : ℕ → ℕ) (l : List ℕ) → shown n f ≡ l → (i : ℕ) → i < n → f i ≡ get_or l i 0
-listed n f l e i h = sym (getD-shown n i f 0 h) ∙ ap (λ (m : List ℕ). get_or m i 0) e
-
--- a bishop's subsets, walks and, for a multiplier, slots, as they are listed
-record Lists (s n m : ℕ) (subsets walks slots : List ℕ) : Type 0 where
-  subsets_are : shown n (subset 1 s) ≡ subsets
-  walks_are : shown n (λ i. attack 1 s (get_or subsets i 0)) ≡ walks
-  slots_are : shown n (λ i. magic_index 1 s m (get_or subsets i 0)) ≡ slots
-
-module _ (s n m : ℕ) (subsets walks slots : List ℕ) (l : Lists s n m subsets walks slots) where
-  walk_is : (i : ℕ) → i < n → attack 1 s (subset 1 s i) ≡ get_or walks i 0
-  walk_is i h = ap (attack 1 s) (listed n (subset 1 s) subsets l.subsets_are i h) ∙ listed n (λ i. attack 1 s (get_or subsets i 0)) walks l.walks_are i h
-
-  slot_is : (i : ℕ) → i < n → magic_index 1 s m (subset 1 s i) ≡ get_or slots i 0
-  slot_is i h = ap (magic_index 1 s m) (listed n (subset 1 s) subsets l.subsets_are i h) ∙ listed n (λ i. magic_index 1 s m (get_or subsets i 0)) slots l.slots_are i h
-
-  clean_is : agree n (λ i. magic_index 1 s m (subset 1 s i)) (λ i. attack 1 s (subset 1 s i)) ≡ agree n (λ i. get_or slots i 0) (λ i. get_or walks i 0)
-  clean_is = agree_cong n _ _ _ _ slot_is walk_is
+use Rattle.promises.proofs.BishopLists.{Lists, slot_is, clean_is}
 
 abbrev subsets_a1 : List ℕ
 subsets_a1 = 0x0 ∷ 0x200 ∷ 0x40000 ∷ 0x40200 ∷ 0x8000000 ∷ 0x8000200 ∷ 0x8040000 ∷ 0x8040200 ∷ 0x1000000000 ∷ 0x1000000200 ∷ 0x1000040000 ∷ 0x1000040200 ∷ 0x1008000000 ∷ 0x1008000200 ∷ 0x1008040000 ∷ 0x1008040200 ∷ 0x200000000000 ∷ 0x200000000200 ∷ 0x200000040000 ∷ 0x200000040200 ∷ 0x200008000000 ∷ 0x200008000200 ∷ 0x200008040000 ∷ 0x200008040200 ∷ 0x201000000000 ∷ 0x201000000200 ∷ 0x201000040000 ∷ 0x201000040200 ∷ 0x201008000000 ∷ 0x201008000200 ∷ 0x201008040000 ∷ 0x201008040200 ∷ 0x40000000000000 ∷ 0x40000000000200 ∷ 0x40000000040000 ∷ 0x40000000040200 ∷ 0x40000008000000 ∷ 0x40000008000200 ∷ 0x40000008040000 ∷ 0x40000008040200 ∷ 0x40001000000000 ∷ 0x40001000000200 ∷ 0x40001000040000 ∷ 0x40001000040200 ∷ 0x40001008000000 ∷ 0x40001008000200 ∷ 0x40001008040000 ∷ 0x40001008040200 ∷ 0x40200000000000 ∷ 0x40200000000200 ∷ 0x40200000040000 ∷ 0x40200000040200 ∷ 0x40200008000000 ∷ 0x40200008000200 ∷ 0x40200008040000 ∷ 0x40200008040200 ∷ 0x40201000000000 ∷ 0x40201000000200 ∷ 0x40201000040000 ∷ 0x40201000040200 ∷ 0x40201008000000 ∷ 0x40201008000200 ∷ 0x40201008040000 ∷ 0x40201008040200 ∷ []

@@ -8,10 +8,12 @@ pub mod Examples
 pub mod Answered
 pub mod EachSlot
 pub mod Slots
+pub mod Behind
 pub mod RefusedAt
 pub mod Queries
 pub mod Border
 pub mod Exports
+pub mod BishopLists
 pub mod FirstBishops
 pub mod ThirdPlace
 pub mod Later

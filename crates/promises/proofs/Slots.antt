@@ -12,7 +12,7 @@ use lib.ListN.{length, get_or-eq_default}
 use Rattle.bits.specs.Set.{has}
 use Rattle.bits.specs.Shown.{shown}
 use Rattle.bits.proofs.Sets.{has_zero}
-use Rattle.bits.proofs.Shown.{length-shown, getD-shown}
+use Rattle.bits.proofs.Shown.{length_shown, get_or_shown}
 use Rattle.board.specs.Board.{attack}
 use Rattle.board.specs.Blocks.{kind_of, square_of, shift_of, subset}
 use Rattle.board.proofs.Subsets.{subset_in_mask}
@@ -37,7 +37,7 @@ module _ (len : ℕ) (s : State) (r : Right real len s) (e : EachSlot real s 128
   records = shown 128 (record_of s)
 
   record_is : (b : ℕ) → b < 128 → record_in records b ≡ record_of s b
-  record_is b low = getD-shown 128 b (record_of s) no_record low
+  record_is b low = get_or_shown 128 b (record_of s) no_record low
 
   -- the slot by the record is the one that the packing filled
   looked_up : (b i : ℕ) → b < 128 → slot_in (record_in records b) (subset (kind_of b) (square_of b) i) ≡ slot_of real s b i
@@ -61,14 +61,14 @@ module _ (len : ℕ) (s : State) (r : Right real len s) (e : EachSlot real s 128
       where
         to : Dec (j < len) → has (slots (shown len f) j) t ≡ true → Landed records value j t
         to (yes k) h =
-            let l = (q j t).0 (sym (ap (λ (n : ℕ). has n t) (getD-shown len j f 0 k)) ∙ h) in
+            let l = (q j t).0 (sym (ap (λ (n : ℕ). has n t) (get_or_shown len j f 0 k)) ∙ h) in
             record { block = l.block; number = l.subset; a_block = l.a_block; a_subset = l.a_subset; there = looked_up l.block l.subset l.a_block ∙ l.there; has_it = l.has_it }
-        to (no k) h = absurd (true≢false (sym h ∙ ap (λ (n : ℕ). has n t) (get_or-eq_default (shown len f) 0 {n = j} (omega (arith, length-shown len f, k))) ∙ has_zero t))
+        to (no k) h = absurd (true≢false (sym h ∙ ap (λ (n : ℕ). has n t) (get_or-eq_default (shown len f) 0 {n = j} (omega (arith, length_shown len f, k))) ∙ has_zero t))
 
         from : Landed records value j t → has (slots (shown len f) j) t ≡ true
         from l =
             let p : slot_of real s l.block l.number ≡ j = sym (looked_up l.block l.number l.a_block) ∙ l.there in
-            ap (λ (n : ℕ). has n t) (getD-shown len j f 0 (subst (λ (n : ℕ). n < len) p (slot_within l.block l.number l.a_block)))
+            ap (λ (n : ℕ). has n t) (get_or_shown len j f 0 (subst (λ (n : ℕ). n < len) p (slot_within l.block l.number l.a_block)))
             ∙ (q j t).1 (record { block = l.block; subset = l.number; a_block = l.a_block; a_subset = l.a_subset; there = p; has_it = l.has_it })
 
   used_largest : s.end ≡ largest 128 (λ b. (record_in records b).offset + real.size b)
@@ -77,8 +77,8 @@ module _ (len : ℕ) (s : State) (r : Right real len s) (e : EachSlot real s 128
   leaves : Leaves (ended len (done s)) len
   leaves =
       record {
-        table_length = length-shown len s.table;
-        marks_length = length-shown len s.marks;
+        table_length = length_shown len s.table;
+        marks_length = length_shown len s.marks;
         in_table = holds attack s.table e.in_table;
         in_marks = holds rays_of s.marks e.in_marks;
         used_is = used_largest;

@@ -6,7 +6,7 @@ use mathlib.Core.List.{List}
 use native.Mathlib.Omega.{arith}
 use lib.ListN.{length, get_or, set, length-set}
 use Rattle.bits.specs.Shown.{shown}
-use Rattle.bits.proofs.Shown.{over_store, getD-shown}
+use Rattle.bits.proofs.Shown.{over_store, get_or_shown}
 use Rattle.refusal.specs.Paper.{Said}
 use Rattle.board.specs.Board.{rays}
 use Rattle.board.specs.Blocks.{block_of, kind_of, square_of}
@@ -51,5 +51,5 @@ module _ {asked : ℕ → Said ℕ} {n : ℕ} {numbers₀ moves₀ : List ℕ} w
 pub listed_rays : (list : List ℕ) (k s b : ℕ) → list ≡ shown 128 (λ b. rays (kind_of b) (square_of b)) → k ≤ 1 → s ≤ 63 → b ≡ block_of k s → get_or list b 0 ≡ rays k s
 listed_rays list k s b e hk hs eb =
     ap₂ (λ (l : List ℕ) (n : ℕ). get_or l n 0) e eb
-    ∙ getD-shown 128 (block_of k s) (λ b. rays (kind_of b) (square_of b)) 0 (block_lt k s (omega arith) (omega arith))
+    ∙ get_or_shown 128 (block_of k s) (λ b. rays (kind_of b) (square_of b)) 0 (block_lt k s (omega arith) (omega arith))
     ∙ ap₂ rays (kind_block k s (omega arith) (omega arith)) (square_block k s (omega arith))

@@ -6,8 +6,7 @@ use native.Mathlib.Omega.{arith}
 use lib.ListN.{length-set}
 use Rattle.board.specs.Board.{attack}
 use Rattle.board.specs.Blocks.{kind_of, square_of, shift_of, subset}
-use Rattle.board.proofs.Blocks.{kind_lt, square_lt}
-use Rattle.board.proofs.Sizes.{size_high}
+use Rattle.board.proofs.Sizes.{block_size_high}
 use Rattle.packing.specs.Pack.{or_into}
 use Rattle.blocks.specs.Real.{real, magic_index}
 use Rattle.blocks.proofs.Real.{index_lt}
@@ -28,7 +27,7 @@ slot_is b m i question product shift at eq ep es ea = ea ∙ ap₂ (λ (x y : �
 slot_low : (b m i at : ℕ) → at ≡ real.index b m i → (at < real.size b) × (at < 4096)
 slot_low b m i at e =
     let low : at < real.size b = subst (λ (x : ℕ). x < real.size b) (sym e) (index_lt b m (subset (kind_of b) (square_of b) i)) in
-    (low, lt_of_lt_of_le low (size_high (kind_of b) (square_of b) (kind_lt b) (square_lt b)))
+    (low, lt_of_lt_of_le low (block_size_high b))
 
 -- in the part of that length
 in_part : (b at n m : ℕ) → n ≡ m → m ≡ real.size b → at < real.size b → at < n

@@ -1,22 +1,16 @@
 -- `gen_magic::settle` meets its contract.
-use Prim.Native.Nat.{ℕ, ◌≤◌}
-use mathlib.Core.Path.{◌≡◌, sym, subst}
+use mathlib.Core.Path.{sym}
 use native.Mathlib.Omega.{arith}
-use Rattle.board.specs.Blocks.{kind_of, square_of, size_of}
-use Rattle.board.proofs.Blocks.{kind_lt, square_lt}
-use Rattle.board.proofs.Sizes.{size_high}
+use Rattle.board.proofs.Sizes.{block_size_high}
 use Rattle.gen_magic.specs.Builds.{slots}
 use Rattle.gen_magic.proofs.Turns.{first_low, no_room, chosen, none_chosen}
 use Rattle.gen_magic.proofs.settle.Goals as goal
 
-size_small : (b size : ℕ) → size ≡ size_of (kind_of b) (square_of b) → size ≤ 4096
-size_small b size e = subst (λ (n : ℕ). n ≤ 4096) (sym e) (size_high (kind_of b) (square_of b) (kind_lt b) (square_lt b))
-
 pub first_free-place-requires : goal.first_free-place-requires
-first_free-place-requires c = omega (arith, size_small c.args.block _ c.size_at-size.ensures, c.requires.0)
+first_free-place-requires c = omega (arith, c.size_at-size.ensures, block_size_high c.args.block, c.requires.0)
 
 pub overflow_add-place : goal.overflow_add-place
-overflow_add-place c = omega (arith, size_small c.args.block _ c.size_at-size.ensures, c.requires.0, c.first_free-place.ensures, first_low c.size_at-size.result c.rays_at.result (slots c.args.marks.now) c.args.end)
+overflow_add-place c = omega (arith, c.size_at-size.ensures, block_size_high c.args.block, c.requires.0, c.first_free-place.ensures, first_low c.size_at-size.result c.rays_at.result (slots c.args.marks.now) c.args.end)
 
 pub returns-then-place-size : goal.returns-then-place-size
 returns-then-place-size c = let a = c.args in
