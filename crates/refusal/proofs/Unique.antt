@@ -8,8 +8,7 @@ use lib.Dec.{eqb}
 use lib.ListN.{get_or}
 use Rattle.refusal.specs.declared.Refusal.{Refusal}
 use Rattle.refusal.specs.declared.Refusal.TheVariants.{Kind, Square, LengthsDiffer, NoRoom, Spent, Collides, Index, IndexAt, Shift, RecordAt, Length, Budget, SlotAt}
-use Rattle.refusal.specs.declared.Answer.{Answer}
-use Rattle.refusal.specs.declared.Answer.TheVariants.{Gives, Refuses}
+use Rattle.std.specs.Prelude.{Result, Ok, Err}
 use Rattle.refusal.specs.Paper.{Said, gives, refuses, number_of, values_of, said}
 
 abbrev pick : Bool → Refusal → Refusal → Refusal
@@ -55,13 +54,13 @@ refusal_is (SlotAt b i) = refl
 pub unique : {A B : Type 0} (f : A → B) (g : B → A) → ((a : A) → g (f a) ≡ a) → (a b : A) → f a ≡ f b → a ≡ b
 unique f g h a b e = sym (h a) ∙ ap g e ∙ h b
 
-abbrev answer_of : Said ℕ → Answer
-answer_of (gives x) = Gives x
-answer_of (refuses n l) = Refuses (refusal_of n l)
+abbrev result_of : {A : Type 0} → Said A → Result A Refusal
+result_of (gives x) = Ok x
+result_of (refuses n l) = Err (refusal_of n l)
 
-answer_is : (a : Answer) → answer_of (said a) ≡ a
-answer_is (Gives x) = refl
-answer_is (Refuses r) = ap Refuses (refusal_is r)
+result_is : {A : Type 0} (r : Result A Refusal) → result_of (said r) ≡ r
+result_is (Ok x) = refl
+result_is (Err r) = ap Err (refusal_is r)
 
-pub said_unique : (a b : Answer) → said a ≡ said b → a ≡ b
-said_unique = unique said answer_of answer_is
+pub said_unique : {A : Type 0} (a b : Result A Refusal) → said a ≡ said b → a ≡ b
+said_unique = unique said result_of result_is

@@ -1,9 +1,7 @@
 -- 01, "Numbers handed back": the paper's number and values of each refusal, and what a call says in the paper's terms.
-use Rattle.std.specs.Prelude.{ℕ, Bool, true, false, List, [], ◌∷◌}
+use Rattle.std.specs.Prelude.{ℕ, Bool, true, false, List, [], ◌∷◌, Result, Ok, Err}
 use Rattle.refusal.specs.declared.Refusal.{Refusal}
 use Rattle.refusal.specs.declared.Refusal.TheVariants.{Kind, Square, LengthsDiffer, NoRoom, Spent, Collides, Index, IndexAt, Shift, RecordAt, Length, Budget, SlotAt}
-use Rattle.refusal.specs.declared.Answer.{Answer}
-use Rattle.refusal.specs.declared.Answer.TheVariants.{Gives, Refuses}
 
 -- what a call hands back, in the paper's terms: what was asked for, or a refusal's number with the values beside it
 pub data Said (A : Type 0) : Type 0 where
@@ -46,10 +44,10 @@ values_of (SlotAt b i) = b ∷ i ∷ []
 abbrev pub refused : {A : Type 0} → Refusal → Said A
 refused r = refuses (number_of r) (values_of r)
 
--- an answer in the paper's terms
-abbrev pub said : Answer → Said ℕ
-said (Gives x) = gives x
-said (Refuses r) = refused r
+-- what a call hands back, in the paper's terms
+abbrev pub said : {A : Type 0} → Result A Refusal → Said A
+said (Ok x) = gives x
+said (Err r) = refused r
 
 -- where the test holds, the number alone is handed back; else what follows. Tests stand in the paper's order
 abbrev pub refuse_if : {A : Type 0} → Bool → ℕ → Said A → Said A

@@ -1,8 +1,8 @@
 // Refusals: what a call hands back where it can't answer.
 //
-// Holds: the one enum for 01's table "Numbers handed back", the answer that is a number or a refusal, and in
-// specs/Paper.antt the one definition that gives the paper's number and values of each case. Contracts of every crate
-// speak through that definition.
+// Holds: the one enum for 01's table "Numbers handed back", which is the error of every `Result`, and in specs/Paper.antt the
+// one definition that gives the paper's number and values of each case. Contracts of every crate speak through that
+// definition.
 // Ports: the role of src/error.rs (35 lines), which has no numbers, and of the crate's panics.
 // Adds: all of it.
 #![tactic(auto)]
@@ -11,7 +11,7 @@ ghost use Rattle.std.specs.Prelude.{◌≡◌};
 ghost use Rattle.refusal.specs.Paper.{number_of};
 
 // A case for each row of the table. In rows 7 and 8 the audit carries more than a look-up, so each has two cases.
-#[derive(Clone, Copy)]
+#[derive(Clone, Copy, Debug, PartialEq, Eq)]
 pub enum Refusal {
     // 1: kind above 1
     Kind,
@@ -41,36 +41,23 @@ pub enum Refusal {
     SlotAt { block: usize, subset: usize },
 }
 
-// A number of up to 64 bits (a set, a square, a size), or the refusal.
-#[derive(Clone, Copy)]
-pub enum Answer {
-    Gives(u64),
-    Refuses(Refusal),
-}
-
-// The paper's number of a refusal.
-pub fn number(refusal: Refusal) -> u8
-    ensures { result ≡ number_of refusal }
-{
-    match refusal {
-        Refusal::Kind => 1,
-        Refusal::Square => 2,
-        Refusal::LengthsDiffer => 3,
-        Refusal::NoRoom { block: _ } => 4,
-        Refusal::Spent { block: _ } => 5,
-        Refusal::Collides { block: _ } => 6,
-        Refusal::Index => 7,
-        Refusal::IndexAt {
-            block: _,
-            subset: _,
-        } => 7,
-        Refusal::Shift => 8,
-        Refusal::RecordAt { block: _ } => 8,
-        Refusal::Length => 9,
-        Refusal::Budget => 10,
-        Refusal::SlotAt {
-            block: _,
-            subset: _,
-        } => 11,
+impl Refusal {
+    // The paper's number.
+    pub fn number(self) -> u8
+        ensures { result ≡ number_of self }
+    {
+        match self {
+            Refusal::Kind => 1,
+            Refusal::Square => 2,
+            Refusal::LengthsDiffer => 3,
+            Refusal::NoRoom { .. } => 4,
+            Refusal::Spent { .. } => 5,
+            Refusal::Collides { .. } => 6,
+            Refusal::Index | Refusal::IndexAt { .. } => 7,
+            Refusal::Shift | Refusal::RecordAt { .. } => 8,
+            Refusal::Length => 9,
+            Refusal::Budget => 10,
+            Refusal::SlotAt { .. } => 11,
+        }
     }
 }

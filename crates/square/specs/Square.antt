@@ -1,11 +1,6 @@
 -- Squares. 01, "The board": "Square s is 0 to 63; rank s/8, file s mod 8; A1 = 0, H1 = 7, A8 = 56."
-use Rattle.std.specs.Prelude.{ℕ, ◌+◌, ◌-◌, ◌*◌, ◌/◌, ◌%◌, ◌<◌, ◌≡◌, Bool, true, false, List, [], ◌∷◌, ltb, eqb, length, get_or}
-use Rattle.std.proofs.Math.Option.{Option, none, some}
-use Rattle.refusal.specs.Paper.{Said, gives, refused, refuse_if}
-use Rattle.square.specs.declared.Step.{Step}
-use Rattle.square.specs.declared.Step.TheVariants.{To, Off, Refused}
-use Rattle.square.specs.declared.Name.{Name}
-use Rattle.square.specs.declared.Name.TheVariants.{Bytes, Refused as NameRefused}
+use Rattle.std.specs.Prelude.{ℕ, ◌+◌, ◌-◌, ◌*◌, ◌/◌, ◌%◌, ◌<◌, ◌≡◌, Bool, true, false, List, [], ◌∷◌, ltb, eqb, length, get_or, Option, Some, None}
+use Rattle.refusal.specs.Paper.{Said, gives, refuse_if}
 
 abbrev pub rank_of : ℕ → ℕ
 rank_of s = s / 8
@@ -33,8 +28,8 @@ file_said s = on_square s (gives (file_of s))
 -- ---- steps that answer "none" off the board
 
 abbrev pub unless : Bool → ℕ → Option ℕ
-unless true t = none
-unless false t = some t
+unless true t = None
+unless false t = Some t
 
 -- one rank up on the same file, and none from the last rank; the others in the same way
 abbrev pub up_of : ℕ → Option ℕ
@@ -60,12 +55,6 @@ left_said s = on_square s (gives (left_of s))
 
 abbrev pub right_said : ℕ → Said (Option ℕ)
 right_said s = on_square s (gives (right_of s))
-
--- a step's answer in the paper's terms
-abbrev pub stepped : Step → Said (Option ℕ)
-stepped (To t) = gives (some t)
-stepped Off = gives none
-stepped (Refused r) = refused r
 
 -- ---- names: "a letter a to h, then a digit 1 to 8"
 
@@ -94,8 +83,3 @@ name_of s = (97 + file_of s) ∷ (49 + rank_of s) ∷ []
 
 abbrev pub name_said : ℕ → Said (List ℕ)
 name_said s = on_square s (gives (name_of s))
-
--- a written name in the paper's terms
-abbrev pub named : Name → Said (List ℕ)
-named (Bytes a b) = gives (a ∷ b ∷ [])
-named (NameRefused r) = refused r
