@@ -1,10 +1,8 @@
 -- Set operations, as sets of squares.
-use Rattle.std.specs.Prelude.{ℕ, ◌^◌, Bool, true, false, not, ◌&&◌, ◌||◌, eqb}
+use Rattle.std.specs.Prelude.{ℕ, ◌^◌, Bool, true, false, not, ◌&&◌, ◌||◌, eqb, Option, Some, None}
 use Rattle.refusal.specs.Paper.{Said, gives, refuse_if, and_then}
 use Rattle.bits.specs.Set.{has, set_of, least}
 use Rattle.square.specs.Square.{make_square, on_square}
-use Rattle.bitboard.specs.declared.Found.{Found}
-use Rattle.bitboard.specs.declared.Found.TheVariants.{At, End}
 
 -- AND, OR, XOR and NOT: the squares that are in both sets, in at least one, in one and not the other, in none
 unfoldable pub in_both : ℕ → ℕ → ℕ
@@ -35,10 +33,11 @@ rank_file_set rank file = and_then (make_square rank file) square_set
 abbrev pub least_square : ℕ → Said ℕ
 least_square a = refuse_if (eqb a 0) 2 (gives (least 64 (has a)))
 
-abbrev pub pick_next : Bool → Found → Found → Found
-pick_next true x y = x
-pick_next false x y = y
+-- none where there is nothing left
+abbrev pub unless_empty : {A : Type 0} → Bool → A → Option A
+unless_empty true x = None
+unless_empty false x = Some x
 
--- the least square and the rest, or the end where there is none
-abbrev pub next_of : ℕ → Found
-next_of a = pick_next (eqb a 0) End (At (least 64 (has a)) (without a (least 64 (has a))))
+-- the least square and the rest, or none where there is none
+abbrev pub next_of : ℕ → Option (ℕ × ℕ)
+next_of a = unless_empty (eqb a 0) (least 64 (has a), without a (least 64 (has a)))

@@ -13,14 +13,7 @@ ghost use Rattle.std.specs.Int.Count.{ones};
 ghost use Rattle.refusal.specs.Paper.{said};
 ghost use Rattle.bitboard.specs.Bitboard.{in_both, in_either, in_one, in_none, square_set, rank_file_set, least_square, next_of};
 
-use refusal::{Answer, Refusal};
-
-// What the iterator's step finds: the least square and the set without it.
-#[derive(Clone, Copy)]
-pub enum Found {
-    At { square: u8, rest: u64 },
-    End,
-}
+use refusal::Refusal;
 
 pub fn bitand(a: u64, b: u64) -> u64
     ensures { result ≡ in_both a b }
@@ -66,45 +59,39 @@ pub fn popcnt(set: u64) -> u32
     u64::count_ones(set)
 }
 
-pub fn from_square(sq: u8) -> Answer
+pub fn from_square(sq: u8) -> Result<u64, Refusal>
     ensures { said result ≡ square_set sq }
 {
     if sq < 64 {
-        let one: u64 = 1 << sq;
-        return Answer::Gives(one);
+        return Ok(1 << sq);
     }
-    Answer::Refuses(Refusal::Square)
+    Err(Refusal::Square)
 }
 
 // The set of the square on a rank and a file: the original's `set`.
-pub fn set(rank: u8, file: u8) -> Answer
+pub fn set(rank: u8, file: u8) -> Result<u64, Refusal>
     ensures { said result ≡ rank_file_set rank file }
 {
-    match square::make_square(rank, file) {
-        Answer::Gives(sq) => from_square((sq % 256) as u8),
-        Answer::Refuses(refusal) => Answer::Refuses(refusal),
-    }
+    from_square(square::make_square(rank, file)?)
 }
 
-pub fn to_square(set: u64) -> Answer
+pub fn to_square(set: u64) -> Result<u8, Refusal>
     ensures { said result ≡ least_square set }
 {
     if set == 0 {
-        return Answer::Refuses(Refusal::Square);
+        return Err(Refusal::Square);
     }
-    let least = u64::trailing_zeros(set) as u64;
-    Answer::Gives(least)
+    Ok(u64::trailing_zeros(set) as u8)
 }
 
-// The iterator's step: `next` of the original's `Iterator`.
-pub fn next(squares: u64) -> Found
+// The iterator's step, `next` of the original's `Iterator`: the least square and the set without it.
+pub fn next(squares: u64) -> Option<(u8, u64)>
     ensures { result ≡ next_of squares }
 {
     if squares == 0 {
-        return Found::End;
+        return None;
     }
     let square = u64::trailing_zeros(squares) as u8;
     let one: u64 = 1 << square;
-    let rest = squares ^ one;
-    Found::At { square, rest }
+    Some((square, squares ^ one))
 }

@@ -4,7 +4,7 @@ use Prim.Native.Nat.{ℕ, zero, suc, ◌<◌}
 use mathlib.Core.Path.{◌≡◌}
 use mathlib.Core.Bool.{Bool, ◌&&◌}
 use mathlib.Core.List.{List, [], ◌∷◌}
-use mathlib.Core.Option.{Option, none, some}
+use Rattle.std.specs.Prelude.{Option, None, Some}
 use lib.Count.{count_trailing_zeros}
 use lib.Dec.{T, ltb, eqb, eqb→eq}
 use lib.ListN.{get_or}
@@ -35,12 +35,12 @@ crate_mask k s hk hs = eqb→eq (magic_mask k s) (mask k s) (every_at 64 _ (ever
 -- the squares that a loop by m visits, in at most n turns
 unfoldable pub path : ℕ → (ℕ → Option ℕ) → Option ℕ → List ℕ
 path zero m next = []
-path (suc n) m none = []
-path (suc n) m (some s) = s ∷ path n m (m s)
+path (suc n) m None = []
+path (suc n) m (Some s) = s ∷ path n m (m s)
 
 -- the direction's function
 unfoldable pub direction : ℕ → ℕ → ℕ → Option ℕ
-direction k d = get_or (movement k) d (λ s. none)
+direction k d = get_or (movement k) d (λ s. None)
 
 path_test : T (every_line (λ k s d. same_list (path 64 (direction k d) (direction k d s)) (line k d s)))
 unfolding every path direction rook_directions bishop_directions same_list line

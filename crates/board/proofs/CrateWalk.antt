@@ -4,7 +4,7 @@ use Prim.Native.Nat.{ℕ, zero, suc, ◌^◌, ◌<◌}
 use mathlib.Core.Path.{◌≡◌, refl, sym, ap, ap₂, ◌∙◌}
 use mathlib.Core.Bool.{Bool, true, false, not, ◌&&◌, ◌||◌, or_assoc, true≢false}
 use mathlib.Core.List.{List, [], ◌∷◌, ◌++◌}
-use mathlib.Core.Option.{Option, none, some}
+use Rattle.std.specs.Prelude.{Option, None, Some}
 use native.Mathlib.Omega.{arith}
 use borrow.Author.Tests.{ne_eqb}
 use lib.Bits.{bit_and, bit_or, bit_xor, or_disjoint, xor_disjoint, or_zero_r, and_comm}
@@ -54,8 +54,8 @@ more l a t c u e = let q = neither (eqb t u) (is_in u l) e in has_or a (2 ^ t) u
 along : (n : ℕ) (m : ℕ → Option ℕ) (x : Option ℕ) (b a : ℕ) (l : List ℕ) → Covers l a → T (apart l (path n m x)) → answer_along n m x b a ≡ bit_or a (up_to b (path n m x))
 unfolding answer_along path up_to apart
 along zero m x b a l c t = sym (or_zero_r a)
-along (suc n) m none b a l c t = sym (or_zero_r a)
-along (suc n) m (some s) b a l c t =
+along (suc n) m None b a l c t = sym (or_zero_r a)
+along (suc n) m (Some s) b a l c t =
     let ts : List ℕ = path n m (m s) in
     let e : bit_xor a (2 ^ s) ≡ bit_or a (2 ^ s) = xor_new a s (c s (is_false (is_in s l) (both_l (not (is_in s l)) (apart (s ∷ l) ts) t))) in
     ap₂ (λ (q : Bool) (y : ℕ). cond q (answer_along n m (m s) b y) y) (test b s) e

@@ -4,7 +4,7 @@ use Prim.Native.Nat.{ℕ, zero, suc, ◌<◌}
 use mathlib.Core.Path.{◌≡◌, subst}
 use mathlib.Core.Bool.{Bool, true, false, not, ◌&&◌, ◌||◌, beq}
 use mathlib.Core.List.{List, [], ◌∷◌, ◌++◌}
-use mathlib.Core.Option.{Option, none, some}
+use Rattle.std.specs.Prelude.{Option, None, Some}
 use lib.Dec.{T, ltb, ltb→lt}
 use lib.ListN.{get_or}
 use Rattle.bits.specs.Set.{every}
@@ -121,13 +121,13 @@ near_is k s hk hs =
 -- ---- a step stays on the board
 
 abbrev low_step : Option ℕ → Bool
-low_step none = true
-low_step (some t) = ltb t 64
+low_step None = true
+low_step (Some t) = ltb t 64
 
 step_test : T (every_line (λ k s d. low_step (step k d s)))
 unfolding every step
 step_test = tt
 
-pub step_low : (k s d t : ℕ) → k < 2 → s < 64 → d < 4 → step k d s ≡ some t → t < 64
+pub step_low : (k s d t : ℕ) → k < 2 → s < 64 → d < 4 → step k d s ≡ Some t → t < 64
 step_low k s d t hk hs hd e =
     ltb→lt t 64 (subst (λ (x : Option ℕ). T (low_step x)) e (line_at (λ k s d. low_step (step k d s)) step_test k s d hk hs hd))

@@ -1,6 +1,6 @@
 -- The crate's answers, written from src/gen_tables/magic_helpers.rs and what it calls in src/square.rs, src/bitboard.rs and src/gen_tables/rays.rs. Names are the original's. None of our own rays, masks, steps or walks is used.
 use Rattle.std.specs.Prelude.{ℕ, zero, suc, ◌+◌, ◌-◌, ◌*◌, ◌/◌, ◌^◌, Bool, true, false, not, ◌&&◌, ◌||◌, List, [], ◌∷◌, map, eqb, get_or}
-use Rattle.std.proofs.Math.Option.{Option, none, some}
+use Rattle.std.specs.Prelude.{Option, Some, None}
 use Rattle.std.specs.Int.Bits.{bit_and, bit_or, bit_xor}
 use Rattle.std.specs.Int.Count.{ones, count_trailing_zeros}
 use Rattle.bits.specs.Shown.{shown}
@@ -22,26 +22,26 @@ get_file sq = bit_and sq 7
 
 unfoldable pub up : ℕ → Option ℕ
 unfolding make_square get_rank get_file
-up sq = cond (eqb (get_rank sq) 7) none (some (make_square (get_rank sq + 1) (get_file sq)))
+up sq = cond (eqb (get_rank sq) 7) None (Some (make_square (get_rank sq + 1) (get_file sq)))
 
 unfoldable pub down : ℕ → Option ℕ
 unfolding make_square get_rank get_file
-down sq = cond (eqb (get_rank sq) 0) none (some (make_square (get_rank sq - 1) (get_file sq)))
+down sq = cond (eqb (get_rank sq) 0) None (Some (make_square (get_rank sq - 1) (get_file sq)))
 
 unfoldable pub left : ℕ → Option ℕ
 unfolding make_square get_rank get_file
-left sq = cond (eqb (get_file sq) 0) none (some (make_square (get_rank sq) (get_file sq - 1)))
+left sq = cond (eqb (get_file sq) 0) None (Some (make_square (get_rank sq) (get_file sq - 1)))
 
 unfoldable pub right : ℕ → Option ℕ
 unfolding make_square get_rank get_file
-right sq = cond (eqb (get_file sq) 7) none (some (make_square (get_rank sq) (get_file sq + 1)))
+right sq = cond (eqb (get_file sq) 7) None (Some (make_square (get_rank sq) (get_file sq + 1)))
 
 -- ---- src/gen_tables/magic_helpers.rs, lines 17 to 51
 
 -- `map_or(None, f)`
 abbrev pub map_or_none : Option ℕ → (ℕ → Option ℕ) → Option ℕ
-map_or_none none f = none
-map_or_none (some s) f = f s
+map_or_none None f = None
+map_or_none (Some s) f = f s
 
 unfoldable pub rook_directions : List (ℕ → Option ℕ)
 unfolding left right up down
@@ -108,8 +108,8 @@ rays_to_questions mask = shown (2 ^ ones mask) (question (collect mask) (ones ma
 -- `while next != None { answer ^= .. ; if .. != EMPTY { break; } next = m(next) }`, in at most n turns
 unfoldable pub answer_along : ℕ → (ℕ → Option ℕ) → Option ℕ → ℕ → ℕ → ℕ
 answer_along zero m next question answer = answer
-answer_along (suc n) m none question answer = answer
-answer_along (suc n) m (some sq) question answer =
+answer_along (suc n) m None question answer = answer
+answer_along (suc n) m (Some sq) question answer =
     cond (eqb (bit_and (2 ^ sq) question) 0) (answer_along n m (m sq) question (bit_xor answer (2 ^ sq))) (bit_xor answer (2 ^ sq))
 
 -- `for m in movement`; no line has 64 squares, so no loop is cut

@@ -1,14 +1,14 @@
 -- The walk. 01, "The board": "Walk: from s in each of four directions, add squares up to and including the first blocker."
 use Rattle.std.specs.Prelude.{ℕ, zero, suc, ◌^◌, List, [], ◌∷◌}
-use Rattle.std.proofs.Math.Option.{Option, none, some}
+use Rattle.std.specs.Prelude.{Option, Some, None}
 use Rattle.std.specs.Int.Bits.{bit_or}
 use Rattle.bits.specs.Set.{pick, has}
 use Rattle.square.specs.Square.{up_of, down_of, left_of, right_of}
 
 -- a step, and a second one from where it leads
 abbrev pub then_step : Option ℕ → (ℕ → Option ℕ) → Option ℕ
-then_step none f = none
-then_step (some t) f = f t
+then_step None f = None
+then_step (Some t) f = f t
 
 -- one step of a kind in direction 0 to 3: left, right, up, down; left up, right up, left down, right down
 unfoldable pub step : ℕ → ℕ → ℕ → Option ℕ
@@ -25,8 +25,8 @@ step (suc kind) (suc (suc (suc d))) s = then_step (right_of s) down_of
 unfoldable pub onward : ℕ → ℕ → ℕ → Option ℕ → List ℕ
 unfolding step
 onward zero kind d t = []
-onward (suc n) kind d none = []
-onward (suc n) kind d (some t) = t ∷ onward n kind d (step kind d t)
+onward (suc n) kind d None = []
+onward (suc n) kind d (Some t) = t ∷ onward n kind d (step kind d t)
 
 -- the squares in a direction, nearest first: seven at the most
 unfoldable pub line : ℕ → ℕ → ℕ → List ℕ

@@ -1,6 +1,6 @@
 // Rays: the squares that a piece would attack on an empty board.
 //
-// Holds: block numbers with refusals 1 and 2; the rays of a block, and of a kind and a square.
+// Holds: the two kinds, block numbers with refusals 1 and 2; the rays of a block, and of a kind and a square.
 // Ports: src/gen_tables/rays.rs (lines 12 to 52). The loops over the board became a list (crate `tables`) that is proved
 // against the definition; the two tables RAYS[1] and RAYS[0] became blocks 0 to 63 and 64 to 127.
 // Adds: refusals 1 and 2.
@@ -10,26 +10,56 @@ ghost use Rattle.std.specs.Prelude.{◌≡◌};
 ghost use Rattle.refusal.specs.Paper.{said, gives};
 ghost use Rattle.board.specs.Board.{on_block, rays};
 ghost use Rattle.board.specs.Blocks.{block_of, kind_of, square_of};
+ghost use Rattle.rays.specs.Kind.{code_of, Reads};
 
-use refusal::{Answer, Refusal};
+use refusal::Refusal;
+
+// "Kind 0 is rook, 1 is bishop."
+#[derive(Clone, Copy, Debug, PartialEq, Eq)]
+pub enum Kind {
+    Rook,
+    Bishop,
+}
+
+impl TryFrom<u8> for Kind {
+    type Error = Refusal;
+
+    ghost try_from_gives = { Reads };
+
+    fn try_from(code: u8) -> Result<Kind, Refusal> {
+        match code {
+            0 => Ok(Kind::Rook),
+            1 => Ok(Kind::Bishop),
+            _ => Err(Refusal::Kind),
+        }
+    }
+}
 
 // The block of a kind and a square. Block number: bishop on s is s, rook on s is 64 + s. Refusal 1 before 2.
 #[tactic(auto, using(std::proofs::lemmas::Bool::Decides::nat_tests, board::proofs::Blocks::block_rook, board::proofs::Blocks::block_bishop))]
-pub fn block(kind: u8, sq: u8) -> Answer
+pub fn block(kind: u8, sq: u8) -> Result<usize, Refusal>
     ensures { said result ≡ on_block kind sq (gives (block_of kind sq)) }
 {
-    if 1 < kind {
-        return Answer::Refuses(Refusal::Kind);
-    }
+    let kind = Kind::try_from(kind)?;
     if 63 < sq {
-        return Answer::Refuses(Refusal::Square);
+        return Err(Refusal::Square);
     }
-    let bishop = sq as u64;
-    let rook = 64 + bishop;
-    if kind == 0 {
-        return Answer::Gives(rook);
+    match kind {
+        Kind::Rook => Ok(64 + sq as usize),
+        Kind::Bishop => Ok(sq as usize),
     }
-    Answer::Gives(bishop)
+}
+
+// The kind of a block.
+#[tactic(auto, unfolding(board::specs::Blocks::kind_of))]
+pub fn kind_at(block: usize) -> Kind
+    ensures { code_of result ≡ kind_of block }
+{
+    if block / 64 % 2 == 0 {
+        Kind::Bishop
+    } else {
+        Kind::Rook
+    }
 }
 
 // The rays of a block.
@@ -39,11 +69,8 @@ pub fn rays_at(block: usize) -> u64
     tables::rays_listed(block % 128)
 }
 
-pub fn get_rays(kind: u8, sq: u8) -> Answer
+pub fn get_rays(kind: u8, sq: u8) -> Result<u64, Refusal>
     ensures { said result ≡ on_block kind sq (gives (rays kind sq)) }
 {
-    match block(kind, sq) {
-        Answer::Gives(b) => Answer::Gives(rays_at(b as usize)),
-        Answer::Refuses(refusal) => Answer::Refuses(refusal),
-    }
+    Ok(rays_at(block(kind, sq)?))
 }

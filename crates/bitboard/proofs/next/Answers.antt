@@ -7,7 +7,7 @@ use lib.Count.{count_trailing_zeros}
 use Rattle.bits.specs.Set.{has, least}
 use Rattle.bits.proofs.Least.{least_trailing, trailing_lt, trailing_has}
 use Rattle.bitboard.specs.Bitboard.{without}
-use Rattle.bitboard.specs.declared.Found.TheVariants.{At}
+use Rattle.std.specs.Prelude.{Some}
 use Rattle.bitboard.proofs.Without.{xor_square}
 use Rattle.bitboard.proofs.next.Goals as goal
 
@@ -34,4 +34,4 @@ returns c =
     let p : zero < a = omega (arith, c.if-squares-eq0.false) in
     let e : count_trailing_zeros 64 a ≡ least 64 (has a) = sym (least_trailing 64 a h p) in
     simp (ne_eqb _ _ c.if-squares-eq0.false)
-    (ap₂ At e (xor_square a (count_trailing_zeros 64 a) h (low c) (trailing_has 64 a h p) ∙ ap (without a) e))
+    (ap₂ (λ s rest. Some (s, rest)) e (xor_square a (count_trailing_zeros 64 a) h (low c) (trailing_has 64 a h p) ∙ ap (without a) e))
