@@ -63,3 +63,14 @@ pext_is x m = ap (λ (s : Turn). s.dest) (pext_turns_lem 64 x m)
 pub pdep_is : (x m : ℕ) → pdep x m ≡ spread 64 x m
 unfolding pdep
 pdep_is x m = ap (λ (s : Turn). s.dest) (pdep_turns_lem 64 x m)
+
+-- before the first turn and after the last
+pub pext_start : (x m : ℕ) → 0 ≡ packed 0 x m
+unfolding packed
+pext_start x m = refl
+
+pub pext_done : (n x m : ℕ) → n ≡ 64 → packed n x m ≡ pext x m
+pext_done n x m e = ap (λ (i : ℕ). packed i x m) e ∙ sym (pext_is x m)
+
+pub pdep_done : (n x m : ℕ) → n ≡ 64 → spread n x m ≡ pdep x m
+pdep_done n x m e = ap (λ (i : ℕ). spread i x m) e ∙ sym (pdep_is x m)

@@ -13,5 +13,4 @@ pub mod Listing
 pub mod Parts
 pub mod Least
 pub mod Turn
-pub mod Halves
 pub mod SameList

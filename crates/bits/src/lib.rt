@@ -10,15 +10,11 @@
 ghost use Rattle.std.specs.Prelude.{◌≡◌, ◌*◌, ◌/◌, ◌%◌, ◌^◌};
 ghost use Rattle.bits.specs.Intel.{pext, pdep};
 
-// The product is taken modulo 2 to the 64. By halves of 32 bits: the upper halves' product is a multiple of 2^64, and
-// of the cross products only the low half counts. The compiler folds this to one multiply instruction.
+// The product is taken modulo 2 to the 64.
 pub fn wrapping_mul(a: u64, b: u64) -> u64
     ensures { result ≡ a * b % 2 ^ 64 }
 {
-    let al = a & 0xffff_ffff;
-    let bl = b & 0xffff_ffff;
-    let cross = std::num::wrapping_add_u64(al * (b >> 32), bl * (a >> 32));
-    std::num::wrapping_add_u64(cross << 32, al * bl)
+    a.wrapping_mul(b)
 }
 
 // A shift by 64 or more gives 0.
@@ -30,33 +26,31 @@ pub fn shift_right(x: u64, n: u64) -> u64
 }
 
 // PEXT: the bits of x at the squares of the mask, moved together at the low end.
+#[tactic(auto, using(crate::proofs::Count::count_le, crate::proofs::Turn::turn_count, crate::proofs::Turn::packed_turn, crate::proofs::Intel::pext_start, crate::proofs::Intel::pext_done), unfolding(crate::specs::Set::count_below))]
 pub fn extract(x: u64, mask: u64) -> u64
     ensures { result ≡ pext x mask }
 {
     let mut dest: u64 = 0;
     let mut k: u64 = 0;
-    let mut m: u64 = 0;
-    while m < 64 {
+    for m in 0..64u64 {
         let b = (mask >> m) & 1;
         dest |= (b & (x >> m)) << k;
         k += b;
-        m += 1;
     }
     dest
 }
 
 // PDEP: the low bits of x, spread to the squares of the mask.
+#[tactic(auto, using(crate::proofs::Count::count_le, crate::proofs::Turn::turn_count, crate::proofs::Turn::spread_turn, crate::proofs::Intel::pdep_done), unfolding(crate::specs::Set::count_below, crate::proofs::Forms::spread, crate::specs::Set::from_bits))]
 pub fn deposit(x: u64, mask: u64) -> u64
     ensures { result ≡ pdep x mask }
 {
     let mut dest: u64 = 0;
     let mut k = 0u64;
-    let mut m: u64 = 0;
-    while m < 64 {
+    for m in 0..64u64 {
         let b = (mask >> m) & 1;
         dest |= (b & (x >> k)) << m;
         k += b;
-        m += 1;
     }
     dest
 }

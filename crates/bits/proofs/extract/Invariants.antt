@@ -1,11 +1,8 @@
 -- `bits::extract` meets its contract: before turn m, k is how many mask squares are below m, and dest is what they take.
-use Rattle.std.proofs.Common.{◌≡◌, ◌-◌, ◌≤◌}
+use Rattle.std.proofs.Common.{◌≡◌}
 use Rattle.bits.specs.Set.{count_below}
 use Rattle.bits.proofs.Forms.{packed}
 use Rattle.bits.proofs.extract.Given as goal
 
 abbrev pub invariant-loop-m : goal.invariant-loop-m
-invariant-loop-m l = (l.m ≤ 64) × (l.k ≡ count_below l.mask l.m) × (l.dest ≡ packed l.m l.x l.mask)
-
-abbrev pub decreases-loop-m : goal.decreases-loop-m
-decreases-loop-m l = 64 - l.m
+invariant-loop-m l = (l.k ≡ count_below l.mask l.m) × (l.dest ≡ packed l.m l.x l.mask)
