@@ -4,7 +4,7 @@ use Prim.Native.Nat.{ℕ, zero, suc, ◌+◌, ◌-◌, ◌*◌, ◌%◌, ◌^◌
 use mathlib.Core.Path.{◌≡◌, refl, sym, ap, ◌∙◌}
 use mathlib.Core.Bool.{Bool}
 use mathlib.Core.List.{List, [], ◌∷◌}
-use mathlib.Core.Option.{Option, none, some}
+use Rattle.std.specs.Prelude.{Option, Some, None}
 use native.Mathlib.Omega.{arith}
 use borrow.Author.Tests.{le-ltb}
 use lib.Bits.{bit_and, bit_or, or_zero_r}
@@ -23,20 +23,20 @@ given_step k d s x h e = e ∙ ap (λ (c : Bool). refuse_if c 2 (gives (step k d
 unfoldable pub to_go : ℕ → ℕ → ℕ → ℕ → ℕ → ℕ
 to_go b n k d s = up_to b (onward (7 - n) k d (step k d s))
 
-nowhere : (m k d : ℕ) → onward m k d none ≡ []
+nowhere : (m k d : ℕ) → onward m k d None ≡ []
 unfolding onward
 nowhere zero k d = refl
 nowhere (suc m) k d = refl
 
-onward_some : (n k d t : ℕ) → n < 7 → onward (7 - n) k d (some t) ≡ t ∷ onward (7 - (n + 1)) k d (step k d t)
+onward_some : (n k d t : ℕ) → n < 7 → onward (7 - n) k d (Some t) ≡ t ∷ onward (7 - (n + 1)) k d (step k d t)
 unfolding onward
 onward_some n k d t h =
     let q : 7 - n ≡ suc (7 - (n + 1)) = omega arith in
-    ap (λ (m : ℕ). onward m k d (some t)) q
+    ap (λ (m : ℕ). onward m k d (Some t)) q
 
 module _ (b n k d s set w : ℕ) (inv : bit_or set (to_go b n k d s) ≡ w) where
   -- no step: what is gathered is the whole
-  pub along_off : step k d s ≡ none → set ≡ w
+  pub along_off : step k d s ≡ None → set ≡ w
   unfolding to_go up_to
   along_off e = sym (or_zero_r set) ∙ ap (λ (l : List ℕ). bit_or set (up_to b l)) (sym (ap (onward (7 - n) k d) e ∙ nowhere (7 - n) k d)) ∙ inv
 
@@ -47,7 +47,7 @@ module _ (b n k d s set w : ℕ) (inv : bit_or set (to_go b n k d s) ≡ w) wher
       let z : 7 - n ≡ 0 = omega arith in
       sym (or_zero_r set) ∙ ap (λ (m : ℕ). bit_or set (up_to b (onward m k d (step k d s)))) (sym z) ∙ inv
 
-  module _ (t : ℕ) (e : step k d s ≡ some t) (h : n < 7) (low : t < 64) where
+  module _ (t : ℕ) (e : step k d s ≡ Some t) (h : n < 7) (low : t < 64) where
     next : bit_or (bit_or set (2 ^ t)) (pick (has b t) 0 (to_go b (n + 1) k d t)) ≡ w
     unfolding to_go up_to
     next =

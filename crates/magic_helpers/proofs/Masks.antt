@@ -1,6 +1,6 @@
 -- The squares that a mask leaves out, as the code has them, and the mask by them.
 -- Assumes nothing.
-use Prim.Native.Nat.{ℕ, ◌-◌, ◌*◌, ◌/◌, ◌%◌, ◌^◌}
+use Prim.Native.Nat.{ℕ, ◌-◌, ◌*◌, ◌/◌, ◌%◌, ◌^◌, ◌<◌}
 use mathlib.Core.Path.{◌≡◌, refl, sym, ap, ap₂, ◌∙◌}
 use mathlib.Core.Bool.{not, ◌&&◌}
 use native.Mathlib.Omega.{arith}
@@ -15,27 +15,19 @@ use Rattle.board.specs.Board.{on_ray, rays, cut_off, in_mask, mask}
 use Rattle.board.specs.Blocks.{kind_of, square_of}
 use Rattle.board.proofs.Attack.{rays_lt, has_rays}
 
-whole_edge : (s : ℕ) → 0xFF818181818181FF ≡ set_of (cut_off 1 s)
+pub whole_edge : (s : ℕ) → 0xFF818181818181FF ≡ set_of (cut_off 1 s)
 unfolding set_of cut_off
 whole_edge s = refl
 
-pub edges_bishop : (b : ℕ) → b / 64 % 2 ≡ 0 → 0xFF818181818181FF ≡ set_of (cut_off (kind_of b) (square_of b))
-unfolding kind_of
-edges_bishop b e = whole_edge (square_of b) ∙ ap (λ (n : ℕ). set_of (cut_off (1 - n) (square_of b))) (sym e)
-
-abbrev pub own_lines : ℕ → ℕ
+abbrev own_lines : ℕ → ℕ
 own_lines s = bit_or (0x81 * 2 ^ (s / 8 * 8) % 2 ^ 64) (0x0100000000000001 * 2 ^ (s % 8) % 2 ^ 64)
 
 own_test : T (every 64 (λ s. eqb (own_lines s) (set_of (cut_off 0 s))))
 unfolding every set_of cut_off
 own_test = tt
 
-pub edges_rook : (b : ℕ) → (b / 64 % 2 ≡ 0 → ⊥) → own_lines (b % 64) ≡ set_of (cut_off (kind_of b) (square_of b))
-unfolding kind_of square_of
-edges_rook b f =
-    let e : 1 - b / 64 % 2 ≡ 0 = omega arith in
-    eqb→eq (own_lines (b % 64)) (set_of (cut_off 0 (b % 64))) (every_at 64 (λ s. eqb (own_lines s) (set_of (cut_off 0 s))) own_test (b % 64) (omega arith))
-    ∙ ap (λ (n : ℕ). set_of (cut_off n (b % 64))) (sym e)
+pub own_edges_are : (s : ℕ) → s < 64 → own_lines s ≡ set_of (cut_off 0 s)
+own_edges_are s h = eqb→eq (own_lines s) (set_of (cut_off 0 s)) (every_at 64 (λ s. eqb (own_lines s) (set_of (cut_off 0 s))) own_test s h)
 
 pub mask_is : (k s : ℕ) → bit_and (rays k s) ((2 ^ 64 - 1) - set_of (cut_off k s)) ≡ mask k s
 unfolding mask in_mask

@@ -2,38 +2,43 @@
 //
 // Holds: for a kind and a square, with refusals 1 and 2: `magic_mask`, `size`, `rightshift`, `subset`, `walk`; for a block
 // number, any number: the same without refusals, under names in `_at`.
-// Ports: src/gen_tables/magic_helpers.rs (lines 17 to 138). The lists of direction functions became a direction number
-// and a match, the vectors of questions and answers the functions `subset` and `walk` of a number; `rightshift` is from
+// Ports: src/gen_tables/magic_helpers.rs (lines 17 to 138). The lists of direction functions became arguments of `ray`, the
+// vectors of questions and answers the functions `subset` and `walk` of a number; `rightshift` is from
 // src/gen_tables/magic.rs (line 80).
 // Adds: refusals 1 and 2. `random_bitboard` is the crate `splitmix`'s.
 #![tactic(auto)]
 
-ghost use Rattle.std.specs.Prelude.{◌≡◌, ◌≤◌, ◌<◌};
+ghost use Rattle.std.specs.Prelude.{◌≡◌, ℕ, ◌<◌};
 ghost use Rattle.refusal.specs.Paper.{said, gives};
 ghost use Rattle.bits.specs.Set.{set_of};
-ghost use Rattle.square.specs.Square.{stepped, on_square};
+ghost use Rattle.square.specs.Square.{on_square};
 ghost use Rattle.board.specs.Board.{cut_off, mask, attack, on_block};
 ghost use Rattle.board.specs.Blocks.{kind_of, square_of, bits_of, size_of, shift_of, subset as subset_of};
-ghost use Rattle.board.specs.Walk.{step, line, up_to};
-ghost use Rattle.magic_helpers.specs.Chain.{vertical_of, chain};
+ghost use Rattle.board.specs.Walk.{step, line, up_to, walk};
 
-use refusal::Answer;
-use square::Step;
+use rays::Kind;
+use refusal::Refusal;
 
 // ---- masks
 
-// The squares that the mask leaves out: for a bishop the whole board edge, for a rook A and H on its own rank and ranks 1
-// and 8 on its own file.
-fn edges(block: usize) -> u64
-    ensures { result ≡ set_of (cut_off (kind_of block) (square_of block)) }
+// A and H on a square's own rank, ranks 1 and 8 on its own file.
+fn own_edges(sq: usize) -> u64
+    requires { sq < 64 }
+    ensures { result ≡ set_of (cut_off 0 sq) }
 {
-    let sq = block % 64;
-    if block / 64 % 2 == 0 {
-        return 0xFF81_8181_8181_81FF;
-    }
     let own_rank: u64 = 0x81 << (sq / 8 * 8);
     let own_file: u64 = 0x0100_0000_0000_0001 << (sq % 8);
     own_rank | own_file
+}
+
+// The squares that the mask leaves out: for a bishop the whole board edge, for a rook its own.
+fn edges(block: usize) -> u64
+    ensures { result ≡ set_of (cut_off (kind_of block) (square_of block)) }
+{
+    match rays::kind_at(block) {
+        Kind::Bishop => 0xFF81_8181_8181_81FF,
+        Kind::Rook => own_edges(block % 64),
+    }
 }
 
 pub fn mask_at(block: usize) -> u64
@@ -52,15 +57,13 @@ pub fn bits_at(block: usize) -> u32
 pub fn size_at(block: usize) -> usize
     ensures { result ≡ size_of (kind_of block) (square_of block) }
 {
-    let bits = bits_at(block);
-    1 << bits
+    1 << bits_at(block)
 }
 
 pub fn shift_at(block: usize) -> u8
     ensures { result ≡ shift_of (kind_of block) (square_of block) }
 {
-    let shift = 64 - bits_at(block);
-    shift as u8
+    (64 - bits_at(block)) as u8
 }
 
 // Question i of the original's rays_to_questions.
@@ -72,73 +75,47 @@ pub fn subset_at(block: usize, i: u64) -> u64
 
 // ---- the walk
 
-// Up or down.
-fn vertical(upward: bool, sq: u8) -> Step
-    ensures { stepped result ≡ on_square sq (gives (vertical_of upward sq)) }
+// The original's bishop_directions, nw, ne, sw, se: a step to the side, and one up or down from there.
+fn left_up(sq: u8) -> Result<Option<u8>, Refusal>
+    ensures { said result ≡ on_square sq (gives (step 1 0 sq)) }
 {
-    if upward {
-        return square::up(sq);
-    }
-    square::down(sq)
+    square::left(sq)?.map_or(Ok(None), square::up)
 }
 
-// A second step, up or down, from where a first one led.
-fn then_vertical(first: Step, upward: bool) -> Step
-    ensures { stepped result ≡ chain (stepped first) (vertical_of upward) }
+fn right_up(sq: u8) -> Result<Option<u8>, Refusal>
+    ensures { said result ≡ on_square sq (gives (step 1 1 sq)) }
 {
-    match first {
-        Step::To(t) => vertical(upward, t),
-        Step::Off => Step::Off,
-        Step::Refused(refusal) => Step::Refused(refusal),
-    }
+    square::right(sq)?.map_or(Ok(None), square::up)
 }
 
-// The original's rook_directions: left, right, up, down.
-fn rook_step(direction: u8, sq: u8) -> Step
-    ensures { stepped result ≡ on_square sq (gives (step 0 direction sq)) }
+fn left_down(sq: u8) -> Result<Option<u8>, Refusal>
+    ensures { said result ≡ on_square sq (gives (step 1 2 sq)) }
 {
-    match direction {
-        0 => square::left(sq),
-        1 => square::right(sq),
-        2 => square::up(sq),
-        _ => square::down(sq),
-    }
+    square::left(sq)?.map_or(Ok(None), square::down)
 }
 
-// The original's bishop_directions: nw, ne, sw, se.
-fn bishop_step(direction: u8, sq: u8) -> Step
-    ensures { stepped result ≡ on_square sq (gives (step 1 direction sq)) }
+fn right_down(sq: u8) -> Result<Option<u8>, Refusal>
+    ensures { said result ≡ on_square sq (gives (step 1 3 sq)) }
 {
-    match direction {
-        0 => then_vertical(square::left(sq), true),
-        1 => then_vertical(square::right(sq), true),
-        2 => then_vertical(square::left(sq), false),
-        _ => then_vertical(square::right(sq), false),
-    }
+    square::right(sq)?.map_or(Ok(None), square::down)
 }
 
-fn one_step(kind: u8, direction: u8, sq: u8) -> Step
-    ensures { stepped result ≡ on_square sq (gives (step kind direction sq)) }
-{
-    if kind == 0 {
-        return rook_step(direction, sq);
-    }
-    bishop_step(direction, sq)
-}
-
-// One direction: squares up to and including the first blocker.
-fn ray(kind: u8, direction: u8, sq: u8, blockers: u64) -> u64
-    requires { (kind < 2) × (direction < 4) × (sq < 64) }
-    ensures { result ≡ up_to blockers (line kind direction sq) }
+// One direction: squares up to and including the first blocker. `way` is the direction's kind and number.
+fn ray<F: Fn(u8) -> Result<Option<u8>, Refusal>>(go: F, sq: u8, blockers: u64) -> u64
+    ghost way: { ℕ × ℕ }
+    requires callable { F.IsAlwaysCallable go }
+    requires steps { (s : ℕ) (r : _) → F.post go s r → said r ≡ on_square s (gives (step way.0 way.1 s)) }
+    requires a_way { (way.0 < 2) × (way.1 < 4) }
+    requires on_board { sq < 64 }
+    ensures { result ≡ up_to blockers (line way.0 way.1 sq) }
 {
     let mut set: u64 = 0;
     let mut at = sq;
-    let mut n: u64 = 0;
-    while n < 7 {
-        let t = match one_step(kind, direction, at) {
-            Step::To(t) => t,
-            Step::Off => return set,
-            Step::Refused(_) => return set,
+    for n in 0..7u64 {
+        let t = match go(at) {
+            Ok(Some(t)) => t,
+            Ok(None) => return set,
+            Err(_) => return set,
         };
         let one: u64 = 1 << t;
         if blockers & one != 0 {
@@ -146,68 +123,71 @@ fn ray(kind: u8, direction: u8, sq: u8, blockers: u64) -> u64
         }
         set |= one;
         at = t;
-        n += 1;
     }
     set
+}
+
+// The original's rook_directions: left, right, up, down.
+#[tactic(auto, unfolding(board::specs::Walk::step, board::specs::Walk::walk))]
+fn rook_walk(sq: u8, blockers: u64) -> u64
+    requires { sq < 64 }
+    ensures { result ≡ walk 0 sq blockers }
+{
+    ray(square::left, sq, blockers)
+        | ray(square::right, sq, blockers)
+        | ray(square::up, sq, blockers)
+        | ray(square::down, sq, blockers)
+}
+
+#[tactic(auto, unfolding(board::specs::Walk::walk))]
+fn bishop_walk(sq: u8, blockers: u64) -> u64
+    requires { sq < 64 }
+    ensures { result ≡ walk 1 sq blockers }
+{
+    ray(left_up, sq, blockers)
+        | ray(right_up, sq, blockers)
+        | ray(left_down, sq, blockers)
+        | ray(right_down, sq, blockers)
 }
 
 pub fn walk_at(block: usize, blockers: u64) -> u64
     ensures { result ≡ attack (kind_of block) (square_of block) blockers }
 {
-    let kind = (1 - block / 64 % 2) as u8;
     let sq = (block % 64) as u8;
-    ray(kind, 0, sq, blockers)
-        | ray(kind, 1, sq, blockers)
-        | ray(kind, 2, sq, blockers)
-        | ray(kind, 3, sq, blockers)
+    match rays::kind_at(block) {
+        Kind::Rook => rook_walk(sq, blockers),
+        Kind::Bishop => bishop_walk(sq, blockers),
+    }
 }
 
 // ---- by kind and square
 
-pub fn magic_mask(kind: u8, sq: u8) -> Answer
+pub fn magic_mask(kind: u8, sq: u8) -> Result<u64, Refusal>
     ensures { said result ≡ on_block kind sq (gives (mask kind sq)) }
 {
-    match rays::block(kind, sq) {
-        Answer::Gives(b) => Answer::Gives(mask_at(b as usize)),
-        Answer::Refuses(refusal) => Answer::Refuses(refusal),
-    }
+    Ok(mask_at(rays::block(kind, sq)?))
 }
 
-pub fn size(kind: u8, sq: u8) -> Answer
+pub fn size(kind: u8, sq: u8) -> Result<usize, Refusal>
     ensures { said result ≡ on_block kind sq (gives (size_of kind sq)) }
 {
-    match rays::block(kind, sq) {
-        Answer::Gives(b) => Answer::Gives(size_at(b as usize) as u64),
-        Answer::Refuses(refusal) => Answer::Refuses(refusal),
-    }
+    Ok(size_at(rays::block(kind, sq)?))
 }
 
-pub fn rightshift(kind: u8, sq: u8) -> Answer
+pub fn rightshift(kind: u8, sq: u8) -> Result<u8, Refusal>
     ensures { said result ≡ on_block kind sq (gives (shift_of kind sq)) }
 {
-    match rays::block(kind, sq) {
-        Answer::Gives(b) => {
-            let shift = shift_at(b as usize) as u64;
-            Answer::Gives(shift)
-        }
-        Answer::Refuses(refusal) => Answer::Refuses(refusal),
-    }
+    Ok(shift_at(rays::block(kind, sq)?))
 }
 
-pub fn subset(kind: u8, sq: u8, i: u64) -> Answer
+pub fn subset(kind: u8, sq: u8, i: u64) -> Result<u64, Refusal>
     ensures { said result ≡ on_block kind sq (gives (subset_of kind sq i)) }
 {
-    match rays::block(kind, sq) {
-        Answer::Gives(b) => Answer::Gives(subset_at(b as usize, i)),
-        Answer::Refuses(refusal) => Answer::Refuses(refusal),
-    }
+    Ok(subset_at(rays::block(kind, sq)?, i))
 }
 
-pub fn walk(kind: u8, sq: u8, blockers: u64) -> Answer
+pub fn walk(kind: u8, sq: u8, blockers: u64) -> Result<u64, Refusal>
     ensures { said result ≡ on_block kind sq (gives (attack kind sq blockers)) }
 {
-    match rays::block(kind, sq) {
-        Answer::Gives(b) => Answer::Gives(walk_at(b as usize, blockers)),
-        Answer::Refuses(refusal) => Answer::Refuses(refusal),
-    }
+    Ok(walk_at(rays::block(kind, sq)?, blockers))
 }

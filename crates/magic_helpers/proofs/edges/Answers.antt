@@ -1,9 +1,14 @@
 -- `magic_helpers::edges` meets its contract, by the kind.
-use Rattle.magic_helpers.proofs.Masks.{edges_bishop, edges_rook}
+use Rattle.std.proofs.Common.{ℕ, ap, ◌∙◌, ◌%◌}
+use Rattle.bits.specs.Set.{set_of}
+use Rattle.board.specs.Board.{cut_off}
+use Rattle.board.specs.Blocks.{square_of}
+use Rattle.magic_helpers.proofs.Masks.{whole_edge}
 use Rattle.magic_helpers.proofs.edges.Goals as goal
 
-pub returns-then-block-eq0 : goal.returns-then-block-eq0
-returns-then-block-eq0 c = edges_bishop c.args.block c.if-block-eq0.true
+pub returns-in-Bishop : goal.returns-in-Bishop
+returns-in-Bishop c = whole_edge (square_of c.args.block) ∙ ap (λ (k : ℕ). set_of (cut_off k (square_of c.args.block))) c.in-Bishop.ensures
 
-pub returns : goal.returns
-returns c = edges_rook c.args.block c.if-block-eq0.false
+pub returns-in-Rook : goal.returns-in-Rook
+unfolding square_of
+returns-in-Rook c = c.own_edges.ensures ∙ ap (λ (k : ℕ). set_of (cut_off k (c.args.block % 64))) c.in-Rook.ensures

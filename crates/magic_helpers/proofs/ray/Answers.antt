@@ -1,8 +1,6 @@
 -- `magic_helpers::ray` meets its contract: what is gathered, and the walk from where the loop stands, make the whole.
-use Prim.Native.Nat.{ℕ, ◌<◌}
-use mathlib.Core.Path.{◌≡◌, refl, sym}
-use mathlib.Core.Option.{some}
-use native.Mathlib.Omega.{arith}
+use Rattle.std.proofs.Common.{◌≡◌, ℕ, ◌<◌, refl, sym, ◌∙◌, ap, arith}
+use Rattle.std.specs.Prelude.{Option, Some, None}
 use lib.Bits.{or_zero_l}
 use Rattle.refusal.specs.Paper.{gives}
 use Rattle.refusal.proofs.Said.{gives_same, gives_not}
@@ -12,39 +10,44 @@ use Rattle.board.proofs.Lines.{step_low}
 use Rattle.magic_helpers.proofs.Along.{given_step, to_go, along_off, along_end, along_stop, along_on}
 use Rattle.magic_helpers.proofs.ray.Goals as goal
 
-pub loop-n-init : goal.loop-n-init
-unfolding to_go line
-loop-n-init c = (omega arith, c.requires.2, or_zero_l (up_to c.args.blockers (line c.args.kind c.args.direction c.args.sq)))
-
-pub returns-in-Off : goal.returns-in-Off
-returns-in-Off c =
-    let l = c.loop-n in
-    along_off _ l.n _ _ _ _ _ l.invariant.2 (gives_same (sym (given_step _ _ _ _ c.loop-n.invariant.1 c.in-Off.ensures)))
-
-pub returns-in-Refused : goal.returns-in-Refused
-returns-in-Refused c = absurd (gives_not (sym (given_step _ _ _ _ c.loop-n.invariant.1 c.in-Refused.ensures)))
+-- where a step led
+abbrev led : (k d at : ℕ) (x : Option ℕ) → at < 64 → gives x ≡ on_square at (gives (step k d at)) → step k d at ≡ x
+led k d at x h e = gives_same (sym (given_step k d at _ h e))
 
 -- the next square, and that it is on the board
-next : (k d at t : ℕ) → k < 2 → d < 4 → at < 64 → gives (some t) ≡ on_square at (gives (step k d at)) → (step k d at ≡ some t) × (t < 64)
-next k d at t hk hd h e = let s = gives_same (sym (given_step _ _ _ _ h e)) in (s, step_low _ _ _ _ hk h hd s)
+next : (k d at t : ℕ) (x : Option ℕ) → (k < 2) × (d < 4) → at < 64 → x ≡ Some t → gives x ≡ on_square at (gives (step k d at)) → (step k d at ≡ Some t) × (t < 64)
+next k d at t x way h e g = let s = led k d at x h g ∙ e in (s, step_low _ _ _ _ way.0 h way.1 s)
+
+pub loop-n-init : goal.loop-n-init
+unfolding to_go line
+loop-n-init g c = record { on_board = c.requires.1.1.1.1; whole = or_zero_l (up_to c.args.blockers (line (g.way).0 (g.way).1 c.args.sq)) }
+
+pub returns-in-Ok-None : goal.returns-in-Ok-None
+returns-in-Ok-None g c =
+    let l = c.loop-n in
+    along_off _ l.n _ _ _ _ _ l.invariant.whole (led _ _ _ _ l.invariant.on_board (c.requires.1.1.0 l.at _ c.in-Ok-None.ensures) ∙ c.in-Ok-None.field-0-is)
+
+pub returns-in-Err : goal.returns-in-Err
+returns-in-Err g c =
+    let l = c.loop-n in
+    absurd (gives_not (sym (given_step _ _ _ _ l.invariant.on_board (c.requires.1.1.0 l.at _ c.in-Err.ensures))))
 
 pub overflow_shl-one : goal.overflow_shl-one
-overflow_shl-one c = (next _ _ _ _ c.requires.0 c.requires.1 c.loop-n.invariant.1 c.in-To.ensures).1
+overflow_shl-one g c =
+    let l = c.loop-n in
+    (next _ _ l.at _ _ c.requires.1.1.1.0 l.invariant.on_board c.in-Ok-Some.field-0-is (c.requires.1.1.0 l.at _ c.in-Ok-Some.ensures)).1
 
 pub returns-then-blockers-one-ne0 : goal.returns-then-blockers-one-ne0
-returns-then-blockers-one-ne0 c =
+returns-then-blockers-one-ne0 g c =
     let l = c.loop-n in
-    let to = next c.args.kind c.args.direction l.at c.in-To.t c.requires.0 c.requires.1 l.invariant.1 c.in-To.ensures in
-    along_stop _ l.n _ _ _ l.set _ l.invariant.2 _ to.0 (omega arith) to.1 _ refl c.if-blockers-one-ne0.true
+    let to = next _ _ l.at _ _ c.requires.1.1.1.0 l.invariant.on_board c.in-Ok-Some.field-0-is (c.requires.1.1.0 l.at _ c.in-Ok-Some.ensures) in
+    along_stop _ l.n _ _ _ l.set _ l.invariant.whole _ to.0 c.loop-n-test.true to.1 _ refl c.if-blockers-one-ne0.true
 
 pub loop-n-preserved : goal.loop-n-preserved
-loop-n-preserved c =
+loop-n-preserved g c =
     let l = c.loop-n in
-    let to = next c.args.kind c.args.direction l.at c.in-To.t c.requires.0 c.requires.1 l.invariant.1 c.in-To.ensures in (
-      omega arith,
-      to.1,
-      along_on _ l.n _ _ _ l.set _ l.invariant.2 _ to.0 (omega arith) to.1 _ refl (omega arith),
-    )
+    let to = next _ _ l.at _ _ c.requires.1.1.1.0 l.invariant.on_board c.in-Ok-Some.field-0-is (c.requires.1.1.0 l.at _ c.in-Ok-Some.ensures) in
+    record { on_board = to.1; whole = along_on _ l.n _ _ _ l.set _ l.invariant.whole _ to.0 c.loop-n-test.true to.1 _ refl (omega arith) }
 
 pub returns : goal.returns
-returns c = let l = c.loop-n in along_end _ l.n _ _ _ _ _ l.invariant.2 c.loop-n-test.false
+returns g c = let l = c.loop-n in along_end _ l.n _ _ _ _ _ l.invariant.whole (omega (arith, c.loop-n-test.false))

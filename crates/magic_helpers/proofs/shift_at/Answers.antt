@@ -8,14 +8,14 @@ use Rattle.board.proofs.Sizes.{bits_high}
 use Rattle.magic_helpers.proofs.shift_at.Goals as goal
 
 -- at most 12 bits
-high : (c : goal.After-bits_at-shift) → c.bits_at-shift.result ≤ 12
+high : (c : goal.After-bits_at) → c.bits_at.result ≤ 12
 high c =
     let b = c.args.block in
-    omega (arith, c.bits_at-shift.ensures, bits_high (kind_of b) (square_of b) (kind_lt b) (square_lt b))
+    omega (arith, c.bits_at.ensures, bits_high (kind_of b) (square_of b) (kind_lt b) (square_lt b))
 
-pub overflow_sub-shift : goal.overflow_sub-shift
-overflow_sub-shift c = omega (arith, high c)
+pub overflow_sub-result : goal.overflow_sub-result
+overflow_sub-result c = omega (arith, high c)
 
 pub returns : goal.returns
 unfolding shift_of
-returns c = ap (λ (n : ℕ). 64 - n) c.bits_at-shift.ensures
+returns c = ap (λ (n : ℕ). 64 - n) c.bits_at.ensures

@@ -1,22 +1,9 @@
--- `magic_helpers::subset` meets its contract: by the block that the kind and the square have, or their refusal.
-use Prim.Native.Nat.{ℕ}
-use mathlib.Core.Path.{ap, ◌∙◌}
+-- `magic_helpers::subset` meets its contract: by the block that the kind and the square have.
+use Rattle.std.proofs.Common.{ℕ, ap, ◌∙◌}
 use Rattle.refusal.specs.Paper.{gives}
-use Rattle.board.specs.Blocks.{block_of, subset}
-use Rattle.board.proofs.Blocks.{by_block, refused_block}
+use Rattle.board.specs.Blocks.{subset}
+use Rattle.board.proofs.Blocks.{by_block}
 use Rattle.magic_helpers.proofs.subset.Goals as goal
 
-pub returns-in-Gives : goal.returns-in-Gives
-returns-in-Gives c =
-    let found = c in
-    let a = found.args in
-    ap gives c.subset_at.ensures
-    ∙ by_block a.kind a.sq c.in-Gives.b (λ (k s : ℕ). gives (subset k s a.i))
-    c.in-Gives.ensures
-
-pub returns-in-Refuses : goal.returns-in-Refuses
-returns-in-Refuses c =
-    let found = c in
-    let a = found.args in
-    refused_block a.kind a.sq _ _ (block_of a.kind a.sq) (gives (subset a.kind a.sq a.i))
-    c.in-Refuses.ensures
+pub returns : goal.returns
+returns c = ap gives c.subset_at.ensures ∙ by_block c.args.kind c.args.sq c.in_ok-block.field-0 (λ (k s : ℕ). gives (subset k s c.args.i)) c.in_ok-block.ensures
