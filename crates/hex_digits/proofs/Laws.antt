@@ -8,57 +8,47 @@ use native.Mathlib.Omega.{arith}
 use native.Mathlib.Nat.{pow-suc, pow-le-pow_right, lt_of_lt_of_le, not-suc-le-zero}
 use native.Mathlib.Numerals.{add-one, sub-one}
 use lib.Dec.{ltb, leb, lit<}
-use lib.ListN.{length, take, drop, get_or, set, length-append}
+use lib.ListN.{length, take, drop, get_or, set, length-append, drop_of_length-le}
 use lib.Seq.{drop-cons, set_split, drop_at, length-take-le, append_snoc}
-use borrow.Author.Tests.{ltb-true, ltb-false, leb-true, le-ltb, le-leb, lt-leb, eq-eqb}
-use Rattle.hex_digits.specs.declared.Value.{Value}
-use Rattle.hex_digits.specs.declared.Value.TheVariants.{Is, Not}
-use Rattle.hex_digits.specs.Hex.{digit_of, on_value, read_after, read_word, figure_of, digits}
+use borrow.Author.Tests.{ltb-true, ltb-false, leb-true, le-ltb, le-leb, lt-leb, eq-eqb, ne_eqb}
+use Rattle.std.specs.Prelude.{◌≢◌, Option, Some, None, option_and_then}
+use Rattle.hex_digits.specs.Hex.{digit_of, read_after, read_word, figure_of, digits, write_word}
 
 -- ---- reading
 
-value_same : {m n : ℕ} → Is m ≡ Is n → m ≡ n
-value_same e = cc
-
-pub value_not : {n : ℕ} → Is n ≡ Not → ⊥
-value_not e = let z : ◌≡◌ {A = ℕ} 0 1 = cc in omega arith
-
-pub digit_lt : (b d : ℕ) → digit_of b ≡ Is d → d < 16
-unfolding digit_of
-digit_lt b d = go (ltb b 48) refl (leb b 57) refl (ltb b 65) refl (leb b 70) refl
-  where
-    go : (p : Bool) → ltb b 48 ≡ p → (q : Bool) → leb b 57 ≡ q → (r : Bool) → ltb b 65 ≡ r → (s : Bool) → leb b 70 ≡ s → cond p Not (cond q (Is (b - 48)) (cond r Not (cond s (Is (b - 65 + 10)) Not))) ≡ Is d → d < 16
-    go true h q k r l s m e = absurd (value_not (sym e))
-    go false h true k r l s m e = omega (arith, value_same e, leb-true b 57 k)
-    go false h false k true l s m e = absurd (value_not (sym e))
-    go false h false k false l true m e = omega (arith, value_same e, leb-true b 70 m)
-    go false h false k false l false m e = absurd (value_not (sym e))
-
-read_more : (n b d : ℕ) (rest : List ℕ) → digit_of b ≡ Is d → read_after n (b ∷ rest) ≡ read_after (16 * n + d) rest
+read_more : (n b d : ℕ) (rest : List ℕ) → digit_of b ≡ Some d → read_after n (b ∷ rest) ≡ read_after (16 * n + d) rest
 unfolding read_after
-read_more n b d rest e = ap (λ (v : Value). on_value v Not (λ d. read_after (16 * n + d) rest)) e
+read_more n b d rest e = ap (option_and_then (λ d. read_after (16 * n + d) rest)) e
 
-read_stop : (n b : ℕ) (rest : List ℕ) → digit_of b ≡ Not → read_after n (b ∷ rest) ≡ Not
+read_stop : (n b : ℕ) (rest : List ℕ) → digit_of b ≡ None → read_after n (b ∷ rest) ≡ None
 unfolding read_after
-read_stop n b rest e = ap (λ (v : Value). on_value v Not (λ d. read_after (16 * n + d) rest)) e
+read_stop n b rest e = ap (option_and_then (λ d. read_after (16 * n + d) rest)) e
 
 -- the next of a list's digits is read
-pub read_next : (n d i : ℕ) (l : List ℕ) → i < length l → digit_of (get_or l i 0) ≡ Is d → read_after n (drop i l) ≡ read_after (16 * n + d) (drop (i + 1) l)
+pub read_next : (n d i : ℕ) (l : List ℕ) → i < length l → digit_of (get_or l i 0) ≡ Some d → read_after n (drop i l) ≡ read_after (16 * n + d) (drop (i + 1) l)
 read_next n d i l h e = rw (add-one, drop-cons l i 0) (read_more n (get_or l i 0) d (drop (suc i) l) e)
 
-pub read_none : (n i : ℕ) (l : List ℕ) → i < length l → digit_of (get_or l i 0) ≡ Not → read_after n (drop i l) ≡ Not
+pub read_none : (n i : ℕ) (l : List ℕ) → i < length l → digit_of (get_or l i 0) ≡ None → read_after n (drop i l) ≡ None
 read_none n i l h e = rw (drop-cons l i 0) (read_stop n (get_or l i 0) (drop (suc i) l) e)
 
--- i digits are below the power of 16, and one more of them fits 64 bits up to the sixteenth
-pub more_lt : (n d i : ℕ) → n < 16 ^ i → d < 16 → 16 * n + d < 16 ^ suc i
-more_lt n d i h l = rw pow-suc (omega arith)
+pub read_end : (n i : ℕ) (l : List ℕ) → length l ≤ i → read_after n (drop i l) ≡ Some n
+unfolding read_after
+read_end n i l h = ap (read_after n) (drop_of_length-le l {i = i} h)
 
-pub more_fits : (n d i : ℕ) → n < 16 ^ i → d < 16 → i < 16 → 16 * n + d < 2 ^ 64
-more_fits n d i h l k = lt_of_lt_of_le (more_lt n d i h l) (pow-le-pow_right (lit< tt) k)
+pub word_read : (l : List ℕ) → length l ≡ 16 → read_word l ≡ read_after 0 l
+unfolding read_word
+word_read l h = simp (eq-eqb _ _ h)
 
--- a number of fewer than 16 digits leaves room for another
-pub number_low : (n i : ℕ) → n < 16 ^ i → i < 16 → n < 2 ^ 60
-number_low n i h k = omega (arith, more_fits n 0 i h (omega arith) k)
+pub word_none : (l : List ℕ) → length l ≢ 16 → read_word l ≡ None
+unfolding read_word
+word_none l h = simp (ne_eqb _ _ h)
+
+-- what is below a power of 16 fits 60 bits up to the fifteenth
+pub power_low : (i : ℕ) → i < 16 → 16 ^ i ≤ 2 ^ 60
+power_low i h = let last : i ≤ 15 = omega arith in pow-le-pow_right (lit< tt) last
+
+pub power_more : (i : ℕ) → 16 ^ (i + 1) ≡ 16 * 16 ^ i
+power_more i = rw (add-one, pow-suc) (omega arith)
 
 -- ---- writing
 
@@ -70,6 +60,19 @@ write_next (suc k) rest out h l =
     rw (sub-one, set_split out k (figure_of (rest % 16)), drop_at (take k out) (figure_of (rest % 16) ∷ drop (suc k) out) k (length-take-le k out (omega arith)))
     (sym (append_snoc (digits k (rest / 16)) (figure_of (rest % 16)) (drop (suc k) out)))
 
+-- no digit is left to write
+pub write_end : (k rest : ℕ) (out : List ℕ) → k ≡ 0 → digits k rest ++ drop k out ≡ out
+unfolding digits
+write_end k rest out h = rw h
+
+pub word_written : (n : ℕ) (out : List ℕ) → 16 ≤ length out → write_word n out ≡ digits 16 n ++ drop 16 out
+unfolding write_word
+word_written n out h = simp (le-leb _ _ h)
+
+pub word_short : (n : ℕ) (out : List ℕ) → length out < 16 → write_word n out ≡ out
+unfolding write_word
+word_short n out h = simp (lt-leb _ _ h)
+
 pub digits_length : (k n : ℕ) → length (digits k n) ≡ k
 unfolding digits
 digits_length zero n = refl
@@ -77,27 +80,27 @@ digits_length (suc k) n = rw (length-append, digits_length k (n / 16)) (add-one 
 
 -- ---- reading what was written
 
-figure_low : (d : ℕ) → d < 10 → digit_of (48 + d) ≡ Is d
+figure_low : (d : ℕ) → d < 10 → digit_of (48 + d) ≡ Some d
 unfolding digit_of
 figure_low d h =
     let from : 48 ≤ 48 + d = omega arith in
     let to : 48 + d ≤ 57 = omega arith in
-    simp (le-ltb _ _ from, le-leb _ _ to) (ap Is (omega arith))
+    simp (le-ltb _ _ from, le-leb _ _ to) (ap Some (omega arith))
 
-figure_high : (d : ℕ) → 10 ≤ d → d < 16 → digit_of (55 + d) ≡ Is d
+figure_high : (d : ℕ) → 10 ≤ d → d < 16 → digit_of (55 + d) ≡ Some d
 unfolding digit_of
 figure_high d l h =
     let from : 65 ≤ 55 + d = omega arith in
     let past : 57 < 55 + d = omega arith in
     let to : 55 + d ≤ 70 = omega arith in
     let low : 48 ≤ 55 + d = omega arith in
-    simp (le-ltb _ _ low, lt-leb _ _ past, le-ltb _ _ from, le-leb _ _ to) (ap Is (omega arith))
+    simp (le-ltb _ _ low, lt-leb _ _ past, le-ltb _ _ from, le-leb _ _ to) (ap Some (omega arith))
 
-figure_value : (d : ℕ) → d < 16 → digit_of (figure_of d) ≡ Is d
+figure_value : (d : ℕ) → d < 16 → digit_of (figure_of d) ≡ Some d
 unfolding figure_of
 figure_value d h = go (ltb d 10) refl
   where
-    go : (t : Bool) → ltb d 10 ≡ t → digit_of (cond t (48 + d) (55 + d)) ≡ Is d
+    go : (t : Bool) → ltb d 10 ≡ t → digit_of (cond t (48 + d) (55 + d)) ≡ Some d
     go true e = figure_low d (ltb-true d 10 e)
     go false e = figure_high d (ltb-false d 10 e) h
 
@@ -112,7 +115,7 @@ read_digits (suc k) n rest h =
     ∙ ap (λ (x : ℕ). read_after x rest) (omega arith))
 
 -- reading what was written gives the number
-pub read_written : (n : ℕ) → n < 2 ^ 64 → read_word (digits 16 n) ≡ Is n
+pub read_written : (n : ℕ) → n < 2 ^ 64 → read_word (digits 16 n) ≡ Some n
 unfolding read_word read_after
 read_written n h =
     simp (eq-eqb _ _ (digits_length 16 n))

@@ -1,32 +1,25 @@
 -- Numbers in hexadecimal. 01, "Board examples": "16 upper-case hex digits".
-use Rattle.std.specs.Prelude.{ℕ, zero, suc, ◌+◌, ◌-◌, ◌*◌, ◌/◌, ◌%◌, cond, List, [], ◌∷◌, ◌++◌, ltb, leb, eqb, length, drop}
-use Rattle.hex_digits.specs.declared.Value.{Value}
-use Rattle.hex_digits.specs.declared.Value.TheVariants.{Is, Not}
+use Rattle.std.specs.Prelude.{ℕ, zero, suc, ◌+◌, ◌-◌, ◌*◌, ◌/◌, ◌%◌, cond, List, [], ◌∷◌, ◌++◌, ltb, leb, eqb, length, drop, Option, Some, None, option_and_then}
 
 -- ---- reading
 
 -- a digit 0 to 9 (bytes 48 to 57) or A to F (65 to 70) has a value; any other byte has none
-unfoldable pub digit_of : ℕ → Value
+unfoldable pub digit_of : ℕ → Option ℕ
 digit_of b =
-    cond (ltb b 48) Not
-    (cond (leb b 57) (Is (b - 48))
-    (cond (ltb b 65) Not
-    (cond (leb b 70) (Is (b - 65 + 10))
-    Not)))
-
--- a value is handed on
-abbrev pub on_value : {A : Type 0} → Value → A → (ℕ → A) → A
-on_value (Is n) a f = f n
-on_value Not a f = a
+    cond (ltb b 48) None
+    (cond (leb b 57) (Some (b - 48))
+    (cond (ltb b 65) None
+    (cond (leb b 70) (Some (b - 65 + 10))
+    None)))
 
 -- the number that the bytes spell after the digits of n, most significant first
-unfoldable pub read_after : ℕ → List ℕ → Value
-read_after n [] = Is n
-read_after n (b ∷ rest) = on_value (digit_of b) Not (λ d. read_after (16 * n + d) rest)
+unfoldable pub read_after : ℕ → List ℕ → Option ℕ
+read_after n [] = Some n
+read_after n (b ∷ rest) = option_and_then (λ d. read_after (16 * n + d) rest) (digit_of b)
 
 -- the number of exactly 16 digits
-unfoldable pub read_word : List ℕ → Value
-read_word bytes = cond (eqb (length bytes) 16) (read_after 0 bytes) Not
+unfoldable pub read_word : List ℕ → Option ℕ
+read_word bytes = cond (eqb (length bytes) 16) (read_after 0 bytes) None
 
 -- ---- writing
 

@@ -5,57 +5,41 @@
 // Adds: all of it, for the lines that the query program reads and writes.
 #![tactic(auto)]
 
-ghost use Rattle.std.specs.Prelude.{◌≡◌, ◌<◌};
+ghost use Rattle.std.specs.Prelude.{◌≡◌, ◌<◌, IfSome};
 ghost use Rattle.hex_digits.specs.Hex.{digit_of, read_word, figure_of, write_word};
-
-// What is read: a number, or no number.
-#[derive(Clone, Copy)]
-pub enum Value {
-    Is(u64),
-    Not,
-}
 
 // The value of one digit.
 #[tactic(auto, using(std::proofs::lemmas::Bool::Decides::nat_tests), unfolding(crate::specs::Hex::digit_of))]
-fn digit(byte: u8) -> Value
-    ensures { result ≡ digit_of byte }
+fn digit(byte: u8) -> Option<u64>
+    ensures value { result ≡ digit_of byte }
+    ensures low { IfSome result (λ d. d < 16) }
 {
-    if byte < b'0' {
-        return Value::Not;
+    match byte {
+        b'0'..=b'9' => Some((byte - b'0') as u64),
+        b'A'..=b'F' => Some((byte - b'A' + 10) as u64),
+        _ => None,
     }
-    if byte <= b'9' {
-        return Value::Is((byte - b'0') as u64);
-    }
-    if byte < b'A' {
-        return Value::Not;
-    }
-    if byte <= b'F' {
-        return Value::Is((byte - b'A' + 10) as u64);
-    }
-    Value::Not
 }
 
 // The number that 16 bytes spell, most significant digit first; no number from another count of bytes or from a byte
 // that is no digit.
-pub fn read(bytes: &[u8]) -> Value
+#[tactic(auto, using(crate::proofs::Laws::read_next, crate::proofs::Laws::read_none, crate::proofs::Laws::read_end, crate::proofs::Laws::word_read, crate::proofs::Laws::word_none, crate::proofs::Laws::power_low, crate::proofs::Laws::power_more))]
+pub fn read(bytes: &[u8]) -> Option<u64>
     ensures { result ≡ read_word bytes.now }
 {
     if bytes.len() != 16 {
-        return Value::Not;
+        return None;
     }
     let mut number: u64 = 0;
-    let mut i: usize = 0;
-    while i < 16 {
-        let Value::Is(d) = digit(bytes[i]) else {
-            return Value::Not;
-        };
+    for byte in bytes {
+        let d = digit(*byte)?;
         number = 16 * number + d;
-        i += 1;
     }
-    Value::Is(number)
+    Some(number)
 }
 
 // The digit of a value below 16.
+#[tactic(auto, using(std::proofs::lemmas::Bool::Decides::nat_tests), unfolding(crate::specs::Hex::figure_of))]
 fn figure(value: u64) -> u8
     requires { value < 16 }
     ensures { result ≡ figure_of value }
@@ -69,14 +53,13 @@ fn figure(value: u64) -> u8
 
 // Puts the 16 digits of n, most significant first, at the start of out; what follows stays. A buffer of fewer than 16
 // bytes stays as it is.
+#[tactic(auto, using(crate::proofs::Laws::write_next, crate::proofs::Laws::write_end, crate::proofs::Laws::word_written, crate::proofs::Laws::word_short))]
 pub fn write(n: u64, out: &mut [u8])
     ensures { out.new ≡ write_word n out.old }
 {
     if 16 <= out.len() {
         let mut rest = n;
-        let mut k: usize = 16;
-        while 0 < k {
-            k -= 1;
+        for k in (0..16).rev() {
             out[k] = figure(rest % 16);
             rest /= 16;
         }

@@ -9,11 +9,11 @@ use native.Mathlib.Omega.{arith}
 use lib.Dec.{ltb, leb, eqb}
 use lib.ListN.{length, set, length-append, length-take}
 use borrow.Author.Tests.{lt-ltb, le-ltb, ltb-true, ltb-false, le-leb, lt-leb, leb-true, eq-eqb, ne_eqb, eqb-true, eqb-false}
-use Rattle.hex_digits.specs.declared.Value.{Value}
+use Rattle.std.specs.Prelude.{Option, Some, None}
 use Rattle.lines.specs.declared.Pending.{Pending}
-use Rattle.lines.specs.Line.{query_of, walk_of, answer_to, answer_line}
+use Rattle.lines.specs.Line.{query_of, walk_of, mark, answer_to, answer_line}
 use Rattle.lines.specs.Calls.{fitting, answered, fresh, line_of, pushed, next_of, says_of, after, written, ending}
-use Rattle.lines.proofs.Line.{answer_length}
+use Rattle.lines.proofs.Line.{walk_long, walk_length, answer_length}
 
 -- ---- what fits
 
@@ -49,9 +49,22 @@ pub ending_some : (p : Pending) (room : ℕ) → (p.len ≡ 0 → ⊥) → endin
 unfolding ending
 ending_some p room h = simp (ne_eqb _ _ h)
 
-pub answered_by : (line : List ℕ) (room : ℕ) (v : Value) → walk_of (query_of line) ≡ v → answered line room ≡ fitting (answer_to line v) room
+pub answered_by : (line : List ℕ) (room : ℕ) (v : Option ℕ) → walk_of (query_of line) ≡ v → answered line room ≡ fitting (answer_to line v) room
 unfolding answered answer_line
-answered_by line room v e = ap (λ (x : Value). fitting (answer_to line x) room) e
+answered_by line room v e = ap (λ (x : Option ℕ). fitting (answer_to line x) room) e
+
+pub answered_mark : (line : List ℕ) (room : ℕ) → walk_of (query_of line) ≡ None → answered line room ≡ fitting mark room
+unfolding answer_to
+answered_mark line room e = answered_by line room None e
+
+-- where a walk was found
+pub answered_walk : (line : List ℕ) (room walk : ℕ) → walk_of (query_of line) ≡ Some walk → 39 ≤ room → answered line room ≡ answer_to line (Some walk)
+answered_walk line room walk e h =
+    answered_by line room (Some walk) e ∙ fitting_is (answer_to line (Some walk)) room (omega (arith, walk_length line walk (walk_long line walk e)))
+
+pub answered_not : (line : List ℕ) (room walk : ℕ) → walk_of (query_of line) ≡ Some walk → room < 39 → answered line room ≡ []
+answered_not line room walk e h =
+    answered_by line room (Some walk) e ∙ fitting_not (answer_to line (Some walk)) room (omega (arith, walk_length line walk (walk_long line walk e)))
 
 -- ---- one byte
 

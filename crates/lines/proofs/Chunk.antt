@@ -15,8 +15,9 @@ use Rattle.lines.specs.Calls.{over, next_of, says_of, after, written, room_for, 
 use Rattle.lines.proofs.Over.{over_none, over_length, over_rest}
 use Rattle.lines.proofs.Calls.{after_append, written_append, says_bound, written_bound}
 
--- after i bytes of a chunk: the state, how much was written, and the buffer
+-- after i bytes of those that a buffer has room for: the state, how much was written, and the buffer
 pub record FedTo (p : Pending) (chunk out₀ : List ℕ) (i : ℕ) (state : Pending) (at : ℕ) (out : List ℕ) : Type 0 where
+  pub room : length chunk ≤ room_for (length out₀)
   pub state_is : state ≡ after p (take i chunk)
   pub at_is : at ≡ length (written p (take i chunk))
   pub out_is : out ≡ over (written p (take i chunk)) out₀
@@ -48,15 +49,15 @@ fed_used p chunk room h = ap length (all_taken chunk room h)
 -- ---- the loop
 
 module _ (p : Pending) (chunk out₀ : List ℕ) where
-  pub fed_none : FedTo p chunk out₀ 0 p 0 out₀
+  pub fed_none : length chunk ≤ room_for (length out₀) → FedTo p chunk out₀ 0 p 0 out₀
   unfolding after written
-  fed_none = record { state_is = refl; at_is = refl; out_is = sym (over_none out₀) }
+  fed_none h = record { room = h; state_is = refl; at_is = refl; out_is = sym (over_none out₀) }
 
-  pub fed_length : (i : ℕ) (state : Pending) (at : ℕ) (out : List ℕ) → FedTo p chunk out₀ i state at out → i ≤ room_for (length out₀) → length out ≡ length out₀
+  fed_length : (i : ℕ) (state : Pending) (at : ℕ) (out : List ℕ) → FedTo p chunk out₀ i state at out → i ≤ length chunk → length out ≡ length out₀
   fed_length i state at out f h =
-      ap length f.out_is ∙ over_length (written p (take i chunk)) out₀ (written_fits p chunk (length out₀) i h)
+      ap length f.out_is ∙ over_length (written p (take i chunk)) out₀ (written_fits p chunk (length out₀) i (omega (arith, f.room)))
 
-  module _ (i : ℕ) (state : Pending) (at : ℕ) (out : List ℕ) (f : FedTo p chunk out₀ i state at out) (in_chunk : i < length chunk) (room : i < room_for (length out₀)) where
+  module _ (i : ℕ) (state : Pending) (at : ℕ) (out : List ℕ) (f : FedTo p chunk out₀ i state at out) (in_chunk : i < length chunk) where
     pub next_fits : at + length (says_of state (get_or chunk i 0)) ≤ length out₀
     next_fits =
         rw (f.at_is, f.state_is)
@@ -65,6 +66,7 @@ module _ (p : Pending) (chunk out₀ : List ℕ) where
           written_bound p (take i chunk),
           says_bound (after p (take i chunk)) (get_or chunk i 0),
           length-take i chunk,
+          f.room,
         ))
 
     pub fed_more : (next : Pending) (len : ℕ) (part : List ℕ) → next ≡ next_of state (get_or chunk i 0) → len ≡ length (says_of state (get_or chunk i 0)) → part ≡ over (says_of state (get_or chunk i 0)) (mid_of at (length out - at) out) → FedTo p chunk out₀ (i + 1) next (at + len) (put_mid at (length out - at) out part)
@@ -80,6 +82,7 @@ module _ (p : Pending) (chunk out₀ : List ℕ) where
         ∙ ap (λ (l : List ℕ). written p s ++ l) (append-nil (says_of (after p s) b) ∙ ap (λ (q : Pending). says_of q b) (sym f.state_is)) in
         let same : length out ≡ length out₀ = fed_length i state at out f (omega arith) in
         record {
+          room = f.room;
           state_is = e ∙ ap (λ (q : Pending). next_of q b) f.state_is ∙ sym (ap (after p) more ∙ after_append p s (b ∷ []));
           at_is = omega (arith, ap length wrote ∙ length-append (written p s) says, f.at_is);
           out_is =
@@ -88,20 +91,20 @@ module _ (p : Pending) (chunk out₀ : List ℕ) where
               ∙ ap (λ (l : List ℕ). over l out₀) (sym wrote);
         }
 
-  -- all of the bytes for which there is room
-  pub fed_all : (n i : ℕ) (state : Pending) (at : ℕ) (out : List ℕ) → FedTo p chunk out₀ i state at out → i ≡ n → n ≡ min (length chunk) (room_for (length out₀)) → record { value : record { pending = state; len = at; used = n } ≡ fed_of p chunk (length out₀); out_after : out ≡ over (written p (taken chunk (length out₀))) out₀ }
-  unfolding fed_of taken
-  fed_all n i state at out f e g =
-      let s = take i chunk in
-      let t : s ≡ taken chunk (length out₀) = ap (λ (k : ℕ). take k chunk) (e ∙ g) ∙ take_min chunk (room_for (length out₀)) in
-      let used : n ≡ length s = omega (arith, length-take i chunk) in
-      record {
-        value = of_parts s f.state_is f.at_is used ∙ ap all t;
-        out_after = f.out_is ∙ ap (λ (s : List ℕ). over (written p s) out₀) t;
-      }
-    where
-      all : List ℕ → Fed
-      all s = record { pending = after p s; len = length (written p s); used = length s }
+-- all of the bytes for which there is room
+pub fed_all : (p : Pending) (chunk out₀ : List ℕ) (n i : ℕ) (state : Pending) (at : ℕ) (out : List ℕ) → FedTo p (take n chunk) out₀ i state at out → length (take n chunk) ≤ i → n ≡ min (length chunk) (room_for (length out₀)) → record { value : record { pending = state; len = at; used = n } ≡ fed_of p chunk (length out₀); out_after : out ≡ over (written p (taken chunk (length out₀))) out₀ }
+unfolding fed_of taken
+fed_all p chunk out₀ n i state at out f e g =
+    let s = take i (take n chunk) in
+    let t : s ≡ taken chunk (length out₀) = take_all i (take n chunk) e ∙ ap (λ (k : ℕ). take k chunk) g ∙ take_min chunk (room_for (length out₀)) in
+    let used : n ≡ length s = omega (arith, ap length (take_all i (take n chunk) e), length-take n chunk) in
+    record {
+      value = of_parts s f.state_is f.at_is used ∙ ap all t;
+      out_after = f.out_is ∙ ap (λ (s : List ℕ). over (written p s) out₀) t;
+    }
+  where
+    all : List ℕ → Fed
+    all s = record { pending = after p s; len = length (written p s); used = length s }
 
-      of_parts : (s : List ℕ) → state ≡ after p s → at ≡ length (written p s) → n ≡ length s → record { pending = state; len = at; used = n } ≡ all s
-      of_parts s a b c = cc
+    of_parts : (s : List ℕ) → state ≡ after p s → at ≡ length (written p s) → n ≡ length s → record { pending = state; len = at; used = n } ≡ all s
+    of_parts s a b c = cc

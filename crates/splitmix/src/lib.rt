@@ -21,22 +21,25 @@ pub struct Drawn {
     pub next: Generator,
 }
 
+#[tactic(auto, unfolding(crate::specs::SplitMix::advanced))]
 fn advance(state: u64) -> u64
     ensures { result ≡ advanced state }
 {
-    std::num::wrapping_add_u64(state, 0x9E37_79B9_7F4A_7C15)
+    state.wrapping_add(0x9E37_79B9_7F4A_7C15)
 }
 
+#[tactic(auto, unfolding(crate::specs::SplitMix::mixed))]
 fn mix(state: u64) -> u64
     ensures { result ≡ mixed state }
 {
-    let z = bits::wrapping_mul(state ^ (state >> 30), 0xBF58_476D_1CE4_E5B9);
-    let z = bits::wrapping_mul(z ^ (z >> 27), 0x94D0_49BB_1331_11EB);
+    let z = (state ^ (state >> 30)).wrapping_mul(0xBF58_476D_1CE4_E5B9);
+    let z = (z ^ (z >> 27)).wrapping_mul(0x94D0_49BB_1331_11EB);
     z ^ (z >> 31)
 }
 
 impl Generator {
     // A candidate is the AND of three outputs in a row.
+    #[tactic(auto, unfolding(crate::specs::SplitMix::after, crate::specs::SplitMix::output, crate::specs::SplitMix::candidate_of))]
     pub fn draw(self) -> Drawn
         ensures { result ≡ drawn self }
     {

@@ -1,7 +1,7 @@
 // The two lists that look-ups read: the rays of each block, and where each block begins in a PEXT table.
 //
-// Holds: each list as a match of 128 arms, which compiles to one load; a `const` array that is indexed would be built anew
-// at each use. Past the list both answer 0. What the numbers mean is proved where they are used (crates `rays`, `bmis`).
+// Holds: each list as a `static`, so that a look-up is one load; a `const` array that is indexed would be built anew at each
+// use. Past the list both answer 0. What the numbers mean is proved where they are used (crates `rays`, `bmis`).
 // Ports: the tables RAYS of src/gen_tables/rays.rs (line 10) and the offsets of src/gen_tables/bmis.rs (line 40), worked out
 // beforehand.
 // Adds: the lists themselves, which the original works out when it is built.
@@ -159,12 +159,12 @@ static STARTS: [usize; 128] = [
 pub fn rays_listed(block: usize) -> u64
     ensures { result ≡ get_or rays block 0 }
 {
-    if block < 128 { RAYS[block] } else { 0 }
+    RAYS.get(block).copied().unwrap_or(0)
 }
 
 // Where the block at a place of the PEXT order begins.
 pub fn start_listed(place: usize) -> usize
     ensures { result ≡ get_or starts place 0 }
 {
-    if place < 128 { STARTS[place] } else { 0 }
+    STARTS.get(place).copied().unwrap_or(0)
 }
