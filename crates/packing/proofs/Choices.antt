@@ -15,8 +15,9 @@ use Rattle.bits.proofs.Every.{is_true, both_r}
 use Rattle.bits.proofs.Least.{least_is, least_passes, least_before, least_none}
 use Rattle.packing.specs.declared.Taken.{Taken}
 use Rattle.std.specs.Prelude.{Some, None}
+use Rattle.std.specs.Bool.{then_some}
 use Rattle.std.proofs.lemmas.Option.{none-some}
-use Rattle.packing.specs.Pack.{Blocks, passes, chosen_if, first_passing, taken_at, by_search, by_lent, clean}
+use Rattle.packing.specs.Pack.{Blocks, passes, first_passing, taken_at, by_search, by_lent, clean}
 use Rattle.packing.specs.Promised.{First, NonePasses, counted, lent_at}
 
 -- ---- the first of any candidates that pass a test
@@ -27,21 +28,21 @@ module _ (candidate : ℕ → ℕ) (budget : ℕ) (p : ℕ → Bool) where
   unfolding taken_at
   taken_first i l t h =
       ap (taken_at candidate budget) (least_is budget p i l t h)
-      ∙ ap (λ (c : Bool). chosen_if c (counted candidate i)) (lt-ltb i budget l)
+      ∙ ap (λ (c : Bool). then_some c (counted candidate i)) (lt-ltb i budget l)
 
   -- none within the budget passes
   pub taken_none : ((j : ℕ) → j < budget → p j ≡ false) → taken_at candidate budget (least budget p) ≡ None
   unfolding taken_at
   taken_none h =
       ap (taken_at candidate budget) (least_none budget p h)
-      ∙ ap (λ (c : Bool). chosen_if c (counted candidate budget)) (le-ltb budget budget (le_refl budget))
+      ∙ ap (λ (c : Bool). then_some c (counted candidate budget)) (le-ltb budget budget (le_refl budget))
 
   -- and then only
   pub none_taken : taken_at candidate budget (least budget p) ≡ None → (j : ℕ) → j < budget → p j ≡ false
   unfolding taken_at
   none_taken e j h = least_before budget p j (go (ltb (least budget p) budget) refl e)
     where
-      go : (t : Bool) → ltb (least budget p) budget ≡ t → chosen_if t (counted candidate (least budget p)) ≡ None → j < least budget p
+      go : (t : Bool) → ltb (least budget p) budget ≡ t → then_some t (counted candidate (least budget p)) ≡ None → j < least budget p
       go true q n = absurd (none-some _ (sym n))
       go false q n = omega (arith, ltb-false (least budget p) budget q)
 
@@ -57,7 +58,7 @@ module _ (B : Blocks) (candidate : ℕ → ℕ) where
   unfolding by_search taken_at first_passing
   found k b x e = go (ltb (first_passing B candidate k b) k) refl e
     where
-      go : (t : Bool) → ltb (first_passing B candidate k b) k ≡ t → chosen_if t (counted candidate (first_passing B candidate k b)) ≡ Some x → Found k b x
+      go : (t : Bool) → ltb (first_passing B candidate k b) k ≡ t → then_some t (counted candidate (first_passing B candidate k b)) ≡ Some x → Found k b x
       go true h q =
           let l : first_passing B candidate k b < k = ltb-true _ k h in
           record {
@@ -115,9 +116,9 @@ module _ (B : Blocks) (lent : ℕ → ℕ) where
   -- "lent multiplier collides": it is not taken exactly then
   pub lent_none : (b : ℕ) → (by_lent B lent b ≡ None) ↔ (clean B b (lent b) ≡ false)
   unfolding by_lent
-  lent_none b = (λ e. go (clean B b (lent b)) e, λ h. ap (λ (t : Bool). chosen_if t (lent_at lent b)) h)
+  lent_none b = (λ e. go (clean B b (lent b)) e, λ h. ap (λ (t : Bool). then_some t (lent_at lent b)) h)
     where
-      go : (t : Bool) → chosen_if t (lent_at lent b) ≡ None → t ≡ false
+      go : (t : Bool) → then_some t (lent_at lent b) ≡ None → t ≡ false
       go true e = absurd (none-some _ (sym e))
       go false e = refl
 
@@ -129,7 +130,7 @@ module _ (B : Blocks) (lent : ℕ → ℕ) where
   unfolding by_lent
   lent_found b x e = go (clean B b (lent b)) refl e
     where
-      go : (t : Bool) → clean B b (lent b) ≡ t → chosen_if t (lent_at lent b) ≡ Some x → (t ≡ true) × (x ≡ lent_at lent b)
+      go : (t : Bool) → clean B b (lent b) ≡ t → then_some t (lent_at lent b) ≡ Some x → (t ≡ true) × (x ≡ lent_at lent b)
       go true h q = (refl, (cc))
       go false h q = absurd (none-some _ q)
 

@@ -1,6 +1,7 @@
 -- Candidates, packing and the two builds, over any blocks. 01, "Candidates" and "Packing".
 use Rattle.std.specs.Prelude.{ℕ, zero, suc, ◌+◌, max, Bool, true, false, cond, not, ◌&&◌, leb, ltb, eqb, Option, Some, None}
 use Rattle.std.specs.Int.Bits.{bit_and, bit_or}
+use Rattle.std.specs.Bool.{then_some}
 use Rattle.bits.specs.Set.{pick, every, least}
 use Rattle.packing.specs.declared.Taken.{Taken}
 
@@ -33,10 +34,6 @@ clean B b m = agree (B.size b) (B.index b m) (B.walk b)
 unfoldable pub passes : Blocks → ℕ → ℕ → Bool
 passes B b m = not (B.skipped b m) && clean B b m
 
-abbrev pub chosen_if : Bool → Taken → Option Taken
-chosen_if true x = Some x
-chosen_if false x = None
-
 -- where, from 0, the first passing candidate stands; the budget if none passes within it. "Every block starts again from
 -- the same seed", so that candidate i is the same for each
 unfoldable pub first_passing : Blocks → (ℕ → ℕ) → ℕ → ℕ → ℕ
@@ -44,7 +41,7 @@ first_passing B candidate budget b = least budget (λ i. passes B b (candidate i
 
 -- the candidate at p, if that is within the budget; its count is its position from 1
 unfoldable pub taken_at : (ℕ → ℕ) → ℕ → ℕ → Option Taken
-taken_at candidate budget p = chosen_if (ltb p budget) (record { multiplier = candidate p; count = suc p })
+taken_at candidate budget p = then_some (ltb p budget) (record { multiplier = candidate p; count = suc p })
 
 -- "A block's attempt count is the position, from 1, of its first passing candidate." "Skipped candidates count as
 -- attempts."
@@ -54,7 +51,7 @@ by_search B candidate budget b = taken_at candidate budget (first_passing B cand
 -- "The build from lent multipliers does the same with 128 given numbers, in block order, testing collisions only: the
 -- skip rule belongs to the search. Its attempt counts are 0."
 unfoldable pub by_lent : Blocks → (ℕ → ℕ) → ℕ → Option Taken
-by_lent B lent b = chosen_if (clean B b (lent b)) (record { multiplier = lent b; count = 0 })
+by_lent B lent b = then_some (clean B b (lent b)) (record { multiplier = lent b; count = 0 })
 
 -- ---- packing
 
