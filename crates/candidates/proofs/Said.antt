@@ -6,19 +6,19 @@ use mathlib.Core.Bool.{false}
 use mathlib.Core.List.{[], ◌∷◌}
 use mathlib.Core.Logic.{◌↔◌}
 use native.Mathlib.Omega.{arith}
+use Rattle.std.specs.Prelude.{Option, Some, None}
 use Rattle.refusal.specs.Paper.{refuses}
 use Rattle.splitmix.specs.SplitMix.{candidate}
-use Rattle.packing.specs.declared.Choice.{Choice}
-use Rattle.packing.specs.declared.Choice.TheVariants.{None, Chosen}
+use Rattle.packing.specs.declared.Taken.{Taken}
 use Rattle.packing.specs.Pack.{clean, by_search, by_lent}
 use Rattle.packing.specs.Promised.{NonePasses}
 use Rattle.packing.proofs.Choices.{search_none, lent_none}
 use Rattle.blocks.specs.Real.{real}
 use Rattle.candidates.specs.OneBlock.{chosen_or}
 
-no_choice : (number block : ℕ) (x : Choice) → chosen_or number block x ≡ refuses number (block ∷ []) → x ≡ None
+no_choice : (number block : ℕ) (x : Option Taken) → chosen_or number block x ≡ refuses number (block ∷ []) → x ≡ None
 no_choice number block None e = refl
-no_choice number block (Chosen x) e = let z : ◌≡◌ {A = ℕ} 0 1 = cc in absurd (omega arith)
+no_choice number block (Some x) e = let z : ◌≡◌ {A = ℕ} 0 1 = cc in absurd (omega arith)
 
 -- "budget spent, none passed"
 pub says_5 : (block seed budget : ℕ) → (chosen_or 5 block (by_search real (candidate seed) budget block) ≡ refuses 5 (block ∷ [])) ↔ NonePasses real (candidate seed) budget block

@@ -9,12 +9,14 @@ use native.Mathlib.Omega.{arith}
 use native.Mathlib.Decide.{ℕ_discrete}
 use borrow.Author.Tests.{eqb-true, eqb-false}
 use lib.Dec.{eqb}
-use lib.ListN.{length, get_or, set, length-set}
+use lib.ListN.{length, get_or, set, replicate, length-set, length-replicate}
 use lib.Seq.{get_or-set_same, get_or-set_other}
+use Rattle.std.proofs.Common.{ext_get_or}
+use Rattle.bits.proofs.Shown.{get_or_same}
 use Rattle.packing.specs.Pack.{agree}
 use Rattle.packing.proofs.Agree.{agree_holds, agree_fails}
 use Rattle.packing.proofs.Slots.{Hit, Missed, hits}
-use Rattle.candidates.specs.Trial.{Empty, Rest}
+use Rattle.candidates.specs.Trial.{Rest}
 
 -- the trial slots once n values went in: each holds its value, the others are 0
 pub record Filled (slot value : ℕ → ℕ) (n : ℕ) (trial : List ℕ) : Type 0 where
@@ -23,8 +25,13 @@ pub record Filled (slot value : ℕ → ℕ) (n : ℕ) (trial : List ℕ) : Type
   pub others : (j : ℕ) → Missed slot n j → get_or trial j 0 ≡ 0
 
 module _ (slot value : ℕ → ℕ) where
-  pub filled_none : (trial : List ℕ) → Empty trial → Filled slot value 0 trial
-  filled_none trial e = record { long = e.long; reached = λ i l. omega arith; others = λ j _. e.free j }
+  pub filled_none : (trial : List ℕ) → trial ≡ replicate 4096 0 → Filled slot value 0 trial
+  filled_none trial e =
+      record {
+        long = ap length e ∙ length-replicate {A = ℕ} 4096 0;
+        reached = λ i l. omega arith;
+        others = λ j _. ap (λ (l : List ℕ). get_or l j 0) e ∙ get_or_same 4096 0 j;
+      }
 
   module _ (n : ℕ) (trial : List ℕ) (f : Filled slot value n trial) where
     -- one value more, at a slot that is free or holds the same
@@ -64,10 +71,6 @@ module _ (slot value : ℕ → ℕ) where
             agree_fails size slot value h.by n (omega (arith, h.low)) l h.at
             (λ q. differs (ap (λ (x : ℕ). get_or trial x 0) (sym h.at) ∙ f.reached h.by h.low ∙ q))
 
-    -- what is to be wiped
-    pub filled_rest : Rest slot 0 n trial
-    filled_rest = record { long = f.long; free = λ j m. f.others j (λ i l. m i (omega arith) l) }
-
   -- ---- one turn, as `enter` tells it: r is whether v went in at `at`
 
   module _ (n at v : ℕ) (r : Bool) (trial left : List ℕ) (ea : at ≡ slot n) (ev : v ≡ value n) (er : r ≡ (eqb (get_or trial at 0) 0 || eqb (get_or trial at 0) v)) (el : left ≡ cond r (set trial at v) trial) (f : Filled slot value n trial) where
@@ -79,9 +82,6 @@ module _ (slot value : ℕ → ℕ) where
         go : (c : Bool) → eqb (get_or trial at 0) 0 ≡ c → (c || eqb (get_or trial at 0) v) ≡ true → (get_or trial (slot n) 0 ≡ 0) ⊎ (get_or trial (slot n) 0 ≡ value n)
         go true q h = inl (ap (λ (x : ℕ). get_or trial x 0) (sym ea) ∙ eqb-true (get_or trial at 0) 0 q)
         go false q h = inr (ap (λ (x : ℕ). get_or trial x 0) (sym ea) ∙ eqb-true (get_or trial at 0) v h ∙ ev)
-
-    pub stayed_out : r ≡ false → Filled slot value n left
-    stayed_out t = subst (Filled slot value n) (sym (el ∙ ap (λ (c : Bool). cond c (set trial at v) trial) t)) f
 
     pub turn_clashes : r ≡ false → (size : ℕ) → n < size → agree size slot value ≡ false
     turn_clashes t size l = go (eqb (get_or trial at 0) 0) refl (sym er ∙ t)
@@ -106,5 +106,7 @@ module _ (slot : ℕ → ℕ) where
       go j m (yes e) = ap (λ (x : ℕ). get_or (set trial at 0) x 0) (sym e) ∙ get_or-set_same trial at 0 0 (omega (arith, r.long))
       go j m (no g) = get_or-set_other trial at j 0 0 (λ q. g (sym q)) ∙ r.free j (λ k h l e. later j k m h l (ℕ_discrete k i) e g)
 
-  pub rest_none : (n : ℕ) (trial : List ℕ) → Rest slot n n trial → Empty trial
-  rest_none n trial r = record { long = r.long; free = λ j. r.free j (λ k h l e. omega arith) }
+  pub rest_none : (n : ℕ) (trial : List ℕ) → Rest slot n n trial → trial ≡ replicate 4096 0
+  rest_none n trial r =
+      ext_get_or 0 trial (replicate 4096 0) (r.long ∙ sym (length-replicate {A = ℕ} 4096 0))
+      (λ j _. r.free j (λ k h l e. omega arith) ∙ sym (get_or_same 4096 0 j))

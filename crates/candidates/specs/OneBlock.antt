@@ -1,14 +1,11 @@
 -- The search of one block. 01, "Candidates" and "Numbers handed back".
-use Rattle.std.specs.Prelude.{ℕ, [], ◌∷◌, ltb}
+use Rattle.std.specs.Prelude.{ℕ, [], ◌∷◌, ltb, Option, Some, None, Result, Ok, Err}
 use Rattle.refusal.specs.Paper.{Said, gives, refuses, refused, refuse_if}
+use Rattle.refusal.specs.declared.Refusal.{Refusal}
 use Rattle.splitmix.specs.SplitMix.{candidate}
 use Rattle.packing.specs.declared.Taken.{Taken}
-use Rattle.packing.specs.declared.Choice.{Choice}
-use Rattle.packing.specs.declared.Choice.TheVariants.{None, Chosen}
 use Rattle.packing.specs.Pack.{by_search}
 use Rattle.blocks.specs.Real.{real}
-use Rattle.candidates.specs.declared.Outcome.{Outcome}
-use Rattle.candidates.specs.declared.Outcome.TheVariants.{Found, Refused}
 
 -- 10: "budget above 16,777,216"
 abbrev pub in_budget : {A : Type 0} → ℕ → Said A → Said A
@@ -16,8 +13,8 @@ in_budget budget x = refuse_if (ltb 16777216 budget) 10 x
 
 -- a block's choice in the paper's terms. Where there is none the number stands, with the block: of `search_at` 5, "budget
 -- spent, none passed"; of `lent_at` 6, "lent multiplier collides"
-abbrev pub chosen_or : ℕ → ℕ → Choice → Said Taken
-chosen_or number block (Chosen x) = gives x
+abbrev pub chosen_or : ℕ → ℕ → Option Taken → Said Taken
+chosen_or number block (Some x) = gives x
 chosen_or number block None = refuses number (block ∷ [])
 
 -- "The one-block search takes kind, square, seed and budget and answers that candidate and count, or 1, 2, 10 or 5."
@@ -25,6 +22,6 @@ unfoldable pub search_of : ℕ → ℕ → ℕ → Said Taken
 search_of block seed budget = in_budget budget (chosen_or 5 block (by_search real (candidate seed) budget block))
 
 -- what was found in the paper's terms
-abbrev pub searched : Outcome → Said Taken
-searched (Found x) = gives x
-searched (Refused r) = refused r
+abbrev pub searched : Result Taken Refusal → Said Taken
+searched (Ok x) = gives x
+searched (Err r) = refused r

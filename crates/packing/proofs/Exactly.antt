@@ -6,8 +6,7 @@ use mathlib.Core.Logic.{◌⊎◌, inl, inr, ◌↔◌}
 use native.Mathlib.Nat.{not-suc-le-zero, le_refl, le_of_suc-le-suc, eq-or-lt_of_le}
 use native.Mathlib.Omega.{arith}
 use Rattle.packing.specs.declared.Taken.{Taken}
-use Rattle.packing.specs.declared.Choice.{Choice}
-use Rattle.packing.specs.declared.Choice.TheVariants.{Chosen}
+use Rattle.std.specs.Prelude.{Option, Some}
 use Rattle.packing.specs.Pack.{Blocks, first_passing, by_search, by_lent, State, place, next, done, run, seed_build, lent_build}
 use Rattle.packing.specs.Promised.{Room, after, Fits, taken_by, EachFirst, lent_at, EachClean}
 use Rattle.packing.proofs.Next.{offset_at, taken_at, offset_before, taken_before}
@@ -37,9 +36,9 @@ after_taken B taken (suc n) b h = go (eq-or-lt_of_le (le_of_suc-le-suc h)) (afte
 
 -- ---- any run whose choices are known
 
-module _ (B : Blocks) (len why : ℕ) (choice : ℕ → Choice) (taken : ℕ → Taken) where
+module _ (B : Blocks) (len why : ℕ) (choice : ℕ → Option Taken) (taken : ℕ → Taken) where
   -- blocks that fit run
-  pub fitting_runs : (n : ℕ) → Fits B len taken n → ((b : ℕ) → b < n → choice b ≡ Chosen (taken b)) → Ran B len why choice n (after B taken n)
+  pub fitting_runs : (n : ℕ) → Fits B len taken n → ((b : ℕ) → b < n → choice b ≡ Some (taken b)) → Ran B len why choice n (after B taken n)
   unfolding run after
   fitting_runs zero f c = refl
   fitting_runs (suc n) f c =
@@ -47,7 +46,7 @@ module _ (B : Blocks) (len why : ℕ) (choice : ℕ → Choice) (taken : ℕ →
       (f n (le_refl (suc n))) (c n (le_refl (suc n)))
 
   -- and those of a run that succeeded fit
-  pub run_fits : (n : ℕ) (s : State) → Ran B len why choice n s → ((b : ℕ) → b < n → choice b ≡ Chosen (taken b)) → (s ≡ after B taken n) × Fits B len taken n
+  pub run_fits : (n : ℕ) (s : State) → Ran B len why choice n s → ((b : ℕ) → b < n → choice b ≡ Some (taken b)) → (s ≡ after B taken n) × Fits B len taken n
   unfolding after
   run_fits zero s e c = (ran_none B len why choice s e, λ b l. absurd (not-suc-le-zero l))
   run_fits (suc n) s e c =
@@ -59,7 +58,7 @@ module _ (B : Blocks) (len why : ℕ) (choice : ℕ → Choice) (taken : ℕ →
         λ b h. fit (subst (Room B len n) p l.room) ih.1 b (eq-or-lt_of_le (le_of_suc-le-suc h)),
       )
     where
-      same : (x y : Taken) → choice n ≡ Chosen x → choice n ≡ Chosen y → x ≡ y
+      same : (x y : Taken) → choice n ≡ Some x → choice n ≡ Some y → x ≡ y
       same x y p q = cc
 
       fit : Room B len n (after B taken n) → Fits B len taken n → (b : ℕ) → (b ≡ n) ⊎ (b < n) → Room B len b (after B taken b)
@@ -74,10 +73,10 @@ module _ (B : Blocks) (candidate : ℕ → ℕ) (budget len : ℕ) where
       → (position : ℕ → ℕ) × EachFirst B candidate budget len position n × (s ≡ after B (taken_by candidate position) n)
   ran_first n s e =
       let position : ℕ → ℕ = first_passing B candidate budget in
-      let c : (b : ℕ) → b < n → by_search B candidate budget b ≡ Chosen (s.taken b) = chose B len 5 (by_search B candidate budget) n s e in
+      let c : (b : ℕ) → b < n → by_search B candidate budget b ≡ Some (s.taken b) = chose B len 5 (by_search B candidate budget) n s e in
       let w =
       run_fits B len 5 (by_search B candidate budget) (taken_by candidate position) n s e
-      (λ b h. c b h ∙ ap Chosen (found B candidate budget b (s.taken b) (c b h)).is) in
+      (λ b h. c b h ∙ ap Some (found B candidate budget b (s.taken b) (c b h)).is) in
       (position, record { fits = w.1; first = λ b h. (found B candidate budget b (s.taken b) (c b h)).first }, w.0)
 
   pub first_runs : (position : ℕ → ℕ) (n : ℕ) → EachFirst B candidate budget len position n → Ran B len 5 (by_search B candidate budget) n (after B (taken_by candidate position) n)
@@ -96,8 +95,8 @@ module _ (B : Blocks) (lent : ℕ → ℕ) (len : ℕ) where
   -- the blocks before n, as a run of lent multipliers places them
   pub ran_clean : (n : ℕ) (s : State) → Ran B len 6 (by_lent B lent) n s → EachClean B lent len n × (s ≡ after B (lent_at lent) n)
   ran_clean n s e =
-      let c : (b : ℕ) → b < n → by_lent B lent b ≡ Chosen (s.taken b) = chose B len 6 (by_lent B lent) n s e in
-      let w = run_fits B len 6 (by_lent B lent) (lent_at lent) n s e (λ b h. c b h ∙ ap Chosen (lent_found B lent b (s.taken b) (c b h)).1) in
+      let c : (b : ℕ) → b < n → by_lent B lent b ≡ Some (s.taken b) = chose B len 6 (by_lent B lent) n s e in
+      let w = run_fits B len 6 (by_lent B lent) (lent_at lent) n s e (λ b h. c b h ∙ ap Some (lent_found B lent b (s.taken b) (c b h)).1) in
       (record { fits = w.1; no_collision = λ b h. (lent_found B lent b (s.taken b) (c b h)).0 }, w.0)
 
   pub clean_runs : (n : ℕ) → EachClean B lent len n → Ran B len 6 (by_lent B lent) n (after B (lent_at lent) n)

@@ -9,8 +9,7 @@ use native.Mathlib.Omega.{arith}
 use lib.Bits.{bit_and, bit_or, and_comm, and_self, and_zero_l, or_zero_l, or_zero_r}
 use Rattle.bits.proofs.Algebra.{bit_and_or, or_in, in_or_l, in_or_r, in_trans, apart}
 use Rattle.packing.specs.declared.Taken.{Taken}
-use Rattle.packing.specs.declared.Choice.{Choice}
-use Rattle.packing.specs.declared.Choice.TheVariants.{Chosen}
+use Rattle.std.specs.Prelude.{Option, Some}
 use Rattle.packing.specs.Pack.{Blocks, clean, State, start, hit, next}
 use Rattle.packing.specs.Promised.{Laws, slot_of}
 use Rattle.packing.proofs.Slots.{Hit, Missed, hits}
@@ -106,7 +105,7 @@ module _ (B : Blocks) (L : Laws B) where
   start_sound : Sound B 0 start
   start_sound = record { within = λ j. and_zero_l 0; beyond = λ j h. refl; kept = λ b i h l. absurd (not-suc-le-zero h) }
 
-  pub sound : (len why : ℕ) (choice : ℕ → Choice) → ((b : ℕ) (x : Taken) → choice b ≡ Chosen x → clean B b x.multiplier ≡ true) → (n : ℕ) (s : State) → n ≤ 128 → Ran B len why choice n s → Sound B n s
+  pub sound : (len why : ℕ) (choice : ℕ → Option Taken) → ((b : ℕ) (x : Taken) → choice b ≡ Some x → clean B b x.multiplier ≡ true) → (n : ℕ) (s : State) → n ≤ 128 → Ran B len why choice n s → Sound B n s
   sound len why choice good zero s h e = subst (Sound B 0) (sym (ran_none B len why choice s e)) start_sound
   sound len why choice good (suc n) s h e =
       let l = last B len why choice n s e in

@@ -6,8 +6,8 @@ use mathlib.Core.Bool.{false}
 use mathlib.Core.Logic.{◌⊎◌, inl, inr, ◌↔◌}
 use native.Mathlib.Omega.{arith}
 use Rattle.bits.specs.Shown.{sum}
-use Rattle.packing.specs.declared.Choice.{Choice}
-use Rattle.packing.specs.declared.Choice.TheVariants.{None}
+use Rattle.packing.specs.declared.Taken.{Taken}
+use Rattle.std.specs.Prelude.{Option, None}
 use Rattle.packing.specs.Pack.{Blocks, clean, by_search, by_lent, State, refused, run, seed_build, lent_build}
 use Rattle.packing.specs.Promised.{Room, Full, after, taken_by, NonePasses, EachFirst, lent_at, EachClean}
 use Rattle.packing.proofs.Run.{Ran, run_full, run_spent, Stopped, Cause, stopped, stopped_full, stopped_spent, refusal_stays}
@@ -17,7 +17,7 @@ use Rattle.packing.proofs.Exactly.{ran_first, first_runs, ran_clean, clean_runs}
 
 -- ---- any run of 128 blocks
 
-module _ (B : Blocks) (len why : ℕ) (choice : ℕ → Choice) (b : ℕ) where
+module _ (B : Blocks) (len why : ℕ) (choice : ℕ → Option Taken) (b : ℕ) where
   full_stops : (t : State) → b < 128 → Ran B len why choice b t → Full B len b t → run B len why choice 128 ≡ refused 4 b
   full_stops t l r f = refusal_stays B len why choice 4 b 128 l (run_full B len why choice b t r f)
 

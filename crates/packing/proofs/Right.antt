@@ -8,8 +8,7 @@ use native.Mathlib.Omega.{arith}
 use lib.Bits.{bit_and, and_zero_r}
 use Rattle.bits.specs.Shown.{sum}
 use Rattle.packing.specs.declared.Taken.{Taken}
-use Rattle.packing.specs.declared.Choice.{Choice}
-use Rattle.packing.specs.declared.Choice.TheVariants.{Chosen}
+use Rattle.std.specs.Prelude.{Option, Some}
 use Rattle.packing.specs.Pack.{Blocks, clean, by_search, by_lent, State, done, seed_build, lent_build}
 use Rattle.packing.specs.Promised.{Laws, Right}
 use Rattle.packing.proofs.Run.{Ran}
@@ -19,7 +18,7 @@ use Rattle.packing.proofs.Sound.{Sound}
 use Rattle.packing.proofs.Packed.{sound}
 
 module _ (B : Blocks) (L : Laws B) where
-  right : (len why : ℕ) (choice : ℕ → Choice) → ((b : ℕ) (x : Taken) → choice b ≡ Chosen x → clean B b x.multiplier ≡ true) → (s : State) → Ran B len why choice 128 s → Right B len s
+  right : (len why : ℕ) (choice : ℕ → Option Taken) → ((b : ℕ) (x : Taken) → choice b ≡ Some x → clean B b x.multiplier ≡ true) → (s : State) → Ran B len why choice 128 s → Right B len s
   right len why choice good s e =
       let w : Sound B 128 s = sound B L len why choice good 128 s (le_refl 128) e in
       record {

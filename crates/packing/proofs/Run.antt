@@ -9,22 +9,21 @@ use native.Mathlib.Omega.{arith}
 use borrow.Author.Tests.{leb-true, leb-false, le-leb, lt-leb}
 use lib.Dec.{leb}
 use Rattle.packing.specs.declared.Taken.{Taken}
-use Rattle.packing.specs.declared.Choice.{Choice}
-use Rattle.packing.specs.declared.Choice.TheVariants.{None, Chosen}
+use Rattle.std.specs.Prelude.{Option, Some, None}
 use Rattle.packing.specs.Pack.{Blocks, State, place, next, Outcome, done, refused, tried, step, run}
 use Rattle.packing.specs.Promised.{Room, Full}
 
 pub done≢refused : {s : State} {k b : ℕ} → done s ≡ refused k b → ⊥
 done≢refused {s} {k} {b} e = let z : ◌≡◌ {A = ℕ} 0 1 = cc in omega arith
 
-module _ (B : Blocks) (len why : ℕ) (choice : ℕ → Choice) where
+module _ (B : Blocks) (len why : ℕ) (choice : ℕ → Option Taken) where
   -- the blocks before n were placed, and left t
   abbrev pub Ran : ℕ → State → Type 0
   Ran n t = run B len why choice n ≡ done t
 
   -- ---- one block more
 
-  pub run_next : (n : ℕ) (t : State) (x : Taken) → Ran n t → Room B len n t → choice n ≡ Chosen x → Ran (suc n) (next B n t x)
+  pub run_next : (n : ℕ) (t : State) (x : Taken) → Ran n t → Room B len n t → choice n ≡ Some x → Ran (suc n) (next B n t x)
   unfolding run step tried
   run_next n t x e h q = ap (step B len why choice n) e ∙ ap₂ (tried B why n t) (le-leb (place B n t + B.size n) len h) q
 
@@ -42,7 +41,7 @@ module _ (B : Blocks) (len why : ℕ) (choice : ℕ → Choice) where
 
   -- and there is no other way
   data Way (n : ℕ) : Type 0 where
-    placed : (t : State) (x : Taken) → Ran n t → Room B len n t → choice n ≡ Chosen x → Way n
+    placed : (t : State) (x : Taken) → Ran n t → Room B len n t → choice n ≡ Some x → Way n
     full : (t : State) → Ran n t → Full B len n t → Way n
     spent : (t : State) → Ran n t → Room B len n t → choice n ≡ None → Way n
     stopped_before : (number b : ℕ) → run B len why choice n ≡ refused number b → Way n
@@ -50,9 +49,9 @@ module _ (B : Blocks) (len why : ℕ) (choice : ℕ → Choice) where
   way : (n : ℕ) → Way n
   way n = go (run B len why choice n) refl
     where
-      choose : (t : State) → Ran n t → Room B len n t → (c : Choice) → choice n ≡ c → Way n
+      choose : (t : State) → Ran n t → Room B len n t → (c : Option Taken) → choice n ≡ c → Way n
       choose t e h None q = spent t e h q
-      choose t e h (Chosen x) q = placed t x e h q
+      choose t e h (Some x) q = placed t x e h q
 
       fit : (t : State) → Ran n t → (x : Bool) → leb (place B n t + B.size n) len ≡ x → Way n
       fit t e true h = choose t e (leb-true _ _ h) (choice n) refl
@@ -70,7 +69,7 @@ module _ (B : Blocks) (len why : ℕ) (choice : ℕ → Choice) where
     pub taken : Taken
     pub ran : Ran n before
     pub room : Room B len n before
-    pub chose : choice n ≡ Chosen taken
+    pub chose : choice n ≡ Some taken
     pub now : s ≡ next B n before taken
 
   pub last : (n : ℕ) (s : State) → Ran (suc n) s → Last n s

@@ -8,27 +8,26 @@ use native.Mathlib.Omega.{arith}
 use Rattle.bits.specs.Shown.{sum}
 use Rattle.bits.proofs.Shown.{sum_within}
 use Rattle.packing.specs.declared.Taken.{Taken}
-use Rattle.packing.specs.declared.Choice.{Choice}
-use Rattle.packing.specs.declared.Choice.TheVariants.{Chosen}
+use Rattle.std.specs.Prelude.{Option, Some}
 use Rattle.packing.specs.Pack.{Blocks, State, start, next, done, refused, run}
 use Rattle.packing.specs.Promised.{Full}
 use Rattle.packing.proofs.Next.{place_le, end_old, end_new, end_most, offset_at, offset_before, taken_at, taken_before}
 use Rattle.packing.proofs.Run.{Ran, run_next, Last, last, stopped_full}
 
-module _ (B : Blocks) (len why : ℕ) (choice : ℕ → Choice) where
+module _ (B : Blocks) (len why : ℕ) (choice : ℕ → Option Taken) where
   -- a run of no block
   pub ran_none : (s : State) → Ran B len why choice 0 s → s ≡ start
   unfolding run
   ran_none s e = cc
 
   -- of each block: this was chosen
-  pub chose : (n : ℕ) (s : State) → Ran B len why choice n s → (b : ℕ) → b < n → choice b ≡ Chosen (s.taken b)
+  pub chose : (n : ℕ) (s : State) → Ran B len why choice n s → (b : ℕ) → b < n → choice b ≡ Some (s.taken b)
   chose zero s e b h = absurd (not-suc-le-zero h)
   chose (suc n) s e b h = let l = last B len why choice n s e in go l (eq-or-lt_of_le (le_of_suc-le-suc h)) (chose n l.before l.ran b)
     where
-      go : (l : Last B len why choice n s) → (b ≡ n) ⊎ (b < n) → (b < n → choice b ≡ Chosen (l.before.taken b)) → choice b ≡ Chosen (s.taken b)
-      go l (inl q) ih = ap choice q ∙ l.chose ∙ ap Chosen (sym (taken_at B n l.before l.taken b q)) ∙ ap (λ (t : State). Chosen (t.taken b)) (sym l.now)
-      go l (inr q) ih = ih q ∙ ap Chosen (sym (taken_before B n l.before l.taken b q)) ∙ ap (λ (t : State). Chosen (t.taken b)) (sym l.now)
+      go : (l : Last B len why choice n s) → (b ≡ n) ⊎ (b < n) → (b < n → choice b ≡ Some (l.before.taken b)) → choice b ≡ Some (s.taken b)
+      go l (inl q) ih = ap choice q ∙ l.chose ∙ ap Some (sym (taken_at B n l.before l.taken b q)) ∙ ap (λ (t : State). Some (t.taken b)) (sym l.now)
+      go l (inr q) ih = ih q ∙ ap Some (sym (taken_before B n l.before l.taken b q)) ∙ ap (λ (t : State). Some (t.taken b)) (sym l.now)
 
   -- ---- the end
 
@@ -66,7 +65,7 @@ module _ (B : Blocks) (len why : ℕ) (choice : ℕ → Choice) where
 
 -- ---- two runs
 
-module _ (B : Blocks) (why len len' : ℕ) (choice choice' : ℕ → Choice) where
+module _ (B : Blocks) (why len len' : ℕ) (choice choice' : ℕ → Option Taken) where
   -- a run that succeeded does so again wherever its end fits and the same is chosen
   pub succeeds_again : (n : ℕ) (s : State) → Ran B len why choice n s → s.end ≤ len' → ((b : ℕ) → b < n → choice' b ≡ choice b) → Ran B len' why choice' n s
   unfolding run
@@ -81,7 +80,7 @@ module _ (B : Blocks) (why len len' : ℕ) (choice choice' : ℕ → Choice) whe
       ∙ ap done (sym l.now)
 
   -- two that succeed, and take the same for a block where both take something, leave the same
-  pub same_state : ((b : ℕ) (x x' : Taken) → choice b ≡ Chosen x → choice' b ≡ Chosen x' → x ≡ x') → (n : ℕ) (s s' : State) → Ran B len why choice n s → Ran B len' why choice' n s' → s ≡ s'
+  pub same_state : ((b : ℕ) (x x' : Taken) → choice b ≡ Some x → choice' b ≡ Some x' → x ≡ x') → (n : ℕ) (s s' : State) → Ran B len why choice n s → Ran B len' why choice' n s' → s ≡ s'
   unfolding run
   same_state agree zero s s' e e' = cc
   same_state agree (suc n) s s' e e' =

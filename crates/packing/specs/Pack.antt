@@ -1,10 +1,9 @@
 -- Candidates, packing and the two builds, over any blocks. 01, "Candidates" and "Packing".
-use Rattle.std.specs.Prelude.{ℕ, zero, suc, ◌+◌, max, Bool, true, false, cond, not, ◌&&◌, leb, ltb, eqb}
+use Rattle.std.specs.Prelude.{ℕ, zero, suc, ◌+◌, max, Bool, true, false, cond, not, ◌&&◌, leb, ltb, eqb, Option, Some, None}
 use Rattle.std.specs.Int.Bits.{bit_and, bit_or}
+use Rattle.std.specs.Bool.{then_some}
 use Rattle.bits.specs.Set.{pick, every, least}
 use Rattle.packing.specs.declared.Taken.{Taken}
-use Rattle.packing.specs.declared.Choice.{Choice}
-use Rattle.packing.specs.declared.Choice.TheVariants.{None, Chosen}
 
 -- what a build has to know of each block
 pub record Blocks : Type 0 where
@@ -35,28 +34,24 @@ clean B b m = agree (B.size b) (B.index b m) (B.walk b)
 unfoldable pub passes : Blocks → ℕ → ℕ → Bool
 passes B b m = not (B.skipped b m) && clean B b m
 
-abbrev pub chosen_if : Bool → Taken → Choice
-chosen_if true x = Chosen x
-chosen_if false x = None
-
 -- where, from 0, the first passing candidate stands; the budget if none passes within it. "Every block starts again from
 -- the same seed", so that candidate i is the same for each
 unfoldable pub first_passing : Blocks → (ℕ → ℕ) → ℕ → ℕ → ℕ
 first_passing B candidate budget b = least budget (λ i. passes B b (candidate i))
 
 -- the candidate at p, if that is within the budget; its count is its position from 1
-unfoldable pub taken_at : (ℕ → ℕ) → ℕ → ℕ → Choice
-taken_at candidate budget p = chosen_if (ltb p budget) (record { multiplier = candidate p; count = suc p })
+unfoldable pub taken_at : (ℕ → ℕ) → ℕ → ℕ → Option Taken
+taken_at candidate budget p = then_some (ltb p budget) (record { multiplier = candidate p; count = suc p })
 
 -- "A block's attempt count is the position, from 1, of its first passing candidate." "Skipped candidates count as
 -- attempts."
-unfoldable pub by_search : Blocks → (ℕ → ℕ) → ℕ → ℕ → Choice
+unfoldable pub by_search : Blocks → (ℕ → ℕ) → ℕ → ℕ → Option Taken
 by_search B candidate budget b = taken_at candidate budget (first_passing B candidate budget b)
 
 -- "The build from lent multipliers does the same with 128 given numbers, in block order, testing collisions only: the
 -- skip rule belongs to the search. Its attempt counts are 0."
-unfoldable pub by_lent : Blocks → (ℕ → ℕ) → ℕ → Choice
-by_lent B lent b = chosen_if (clean B b (lent b)) (record { multiplier = lent b; count = 0 })
+unfoldable pub by_lent : Blocks → (ℕ → ℕ) → ℕ → Option Taken
+by_lent B lent b = then_some (clean B b (lent b)) (record { multiplier = lent b; count = 0 })
 
 -- ---- packing
 
@@ -121,18 +116,18 @@ pub data Outcome : Type 0 where
   refused : ℕ → ℕ → Outcome
 
 -- block b, as it fits or not and by what is chosen: "within a block 4 before 5 or 6", of which `why` is the one
-unfoldable pub tried : Blocks → ℕ → ℕ → State → Bool → Choice → Outcome
+unfoldable pub tried : Blocks → ℕ → ℕ → State → Bool → Option Taken → Outcome
 tried B why b s false c = refused 4 b
 tried B why b s true None = refused why b
-tried B why b s true (Chosen x) = done (next B b s x)
+tried B why b s true (Some x) = done (next B b s x)
 
 -- "If place + size exceeds the table, no room." "The first failing block decides."
-unfoldable pub step : Blocks → ℕ → ℕ → (ℕ → Choice) → ℕ → Outcome → Outcome
+unfoldable pub step : Blocks → ℕ → ℕ → (ℕ → Option Taken) → ℕ → Outcome → Outcome
 step B len why choice b (done s) = tried B why b s (leb (place B b s + B.size b) len) (choice b)
 step B len why choice b (refused number at) = refused number at
 
 -- blocks 0 to n - 1, in order
-unfoldable pub run : Blocks → ℕ → ℕ → (ℕ → Choice) → ℕ → Outcome
+unfoldable pub run : Blocks → ℕ → ℕ → (ℕ → Option Taken) → ℕ → Outcome
 run B len why choice zero = done start
 run B len why choice (suc n) = step B len why choice n (run B len why choice n)
 
