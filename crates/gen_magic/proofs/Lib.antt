@@ -1,3 +1,4 @@
+pub mod Ranges
 pub mod Loans
 pub mod Turns
 pub mod Sofar

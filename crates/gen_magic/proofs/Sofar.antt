@@ -19,7 +19,7 @@ use Rattle.blocks.proofs.Real.{all_sizes}
 use Rattle.gen_magic.specs.declared.Record.{Record}
 use Rattle.gen_magic.specs.declared.Source.{Source}
 use Rattle.gen_magic.specs.declared.Source.TheVariants.{Seed, Lent}
-use Rattle.gen_magic.specs.declared.Outcome.TheVariants.{Built}
+use Rattle.std.specs.Prelude.{Ok}
 use Rattle.gen_magic.specs.Builds.{slots, record_at, no_record, leaves, empty, ended, record_in}
 use Rattle.gen_magic.specs.Turn.{choice_by, why_of, built}
 use Rattle.gen_magic.proofs.Turns.{Stops, full, nothing}
@@ -40,24 +40,24 @@ abbrev pub Own : ℕ → Record → Type 0
 Own b r = r ≡ record_at b r.multiplier r.offset
 
 -- the blocks of a source, as `run` takes them
-abbrev pub run_to : Source → List ℕ → ℕ → ℕ → Pack.Outcome
-run_to source l len = run real len (number_of (why_of source 0)) (choice_by source l)
+abbrev pub run_to : Source → ℕ → ℕ → Pack.Outcome
+run_to source len = run real len (number_of (why_of source 0)) (choice_by source)
 
-built_is : (source : Source) (l : List ℕ) (len : ℕ) → built source l len ≡ run_to source l len 128
+built_is : (source : Source) (len : ℕ) → built source len ≡ run_to source len 128
 unfolding seed_build lent_build
-built_is (Seed seed budget) l len = refl
-built_is Lent l len = refl
+built_is (Seed seed budget) len = refl
+built_is (Lent l) len = refl
 
-pub record Sofar (source : Source) (l : List ℕ) (len b : ℕ) (table marks : List ℕ) (records : List Record) (counts : List ℕ) (end : ℕ) : Type 0 where
-  pub ran : run_to source l len b ≡ done (state_of table marks records counts end)
+pub record Sofar (source : Source) (len b : ℕ) (table marks : List ℕ) (records : List Record) (counts : List ℕ) (end : ℕ) : Type 0 where
+  pub ran : run_to source len b ≡ done (state_of table marks records counts end)
   pub own : (j : ℕ) → j < b → Own j (record_in records j)
   pub table_long : length table ≡ len
   pub marks_long : length marks ≡ len
   pub records_long : length records ≡ 128
   pub counts_long : length counts ≡ 128
 
-module _ {source : Source} {l : List ℕ} {len : ℕ} where
-  pub sofar_none : {table marks : List ℕ} → table ≡ replicate len 0 → marks ≡ replicate len 0 → Sofar source l len 0 table marks (replicate 128 no_record) (replicate 128 0) 0
+module _ {source : Source} {len : ℕ} where
+  pub sofar_none : {table marks : List ℕ} → table ≡ replicate len 0 → marks ≡ replicate len 0 → Sofar source len 0 table marks (replicate 128 no_record) (replicate 128 0) 0
   unfolding run
   sofar_none {table} {marks} et em =
       record {
@@ -76,39 +76,39 @@ module _ {source : Source} {l : List ℕ} {len : ℕ} where
         counts_long = length-replicate {A = ℕ} 128 0;
       }
 
-  module _ {b : ℕ} {table marks : List ℕ} {records : List Record} {counts : List ℕ} {end : ℕ} (h : Sofar source l len b table marks records counts end) where
+  module _ {b : ℕ} {table marks : List ℕ} {records : List Record} {counts : List ℕ} {end : ℕ} (h : Sofar source len b table marks records counts end) where
     pub end_in : end ≤ length marks
-    end_in = subst (λ (n : ℕ). end ≤ n) (sym h.marks_long) (end_fits real len (number_of (why_of source 0)) (choice_by source l) b _ h.ran)
+    end_in = subst (λ (n : ℕ). end ≤ n) (sym h.marks_long) (end_fits real len (number_of (why_of source 0)) (choice_by source) b _ h.ran)
 
     -- a block more ends within 107,648
     pub end_small : b < 128 → end + real.size b ≤ 107648
-    end_small lt = bound end (sum b real.size) (real.size b) (sum 128 real.size) (end_total real len (number_of (why_of source 0)) (choice_by source l) b _ h.ran) (sum_within b 128 real.size lt) all_sizes
+    end_small lt = bound end (sum b real.size) (real.size b) (sum 128 real.size) (end_total real len (number_of (why_of source 0)) (choice_by source) b _ h.ran) (sum_within b 128 real.size lt) all_sizes
       where
         bound : (e s z t : ℕ) → e ≤ s → s + z ≤ t → t ≡ 107648 → e + z ≤ 107648
         bound e s z t p q r = omega arith
 
     -- ---- the block is refused
 
-    pub ended_refused : b < 128 → (r : Refusal) → Stops source l b end marks r → ended len (built source l len) ≡ empty (number_of r) (values_of r) (replicate len 0) (replicate len 0)
+    pub ended_refused : b < 128 → (r : Refusal) → Stops source b end marks r → ended len (built source len) ≡ empty (number_of r) (values_of r) (replicate len 0) (replicate len 0)
     unfolding place
     ended_refused lt r (full f e) =
-        ap (ended len) (built_is source l len ∙ refusal_stays real len (number_of (why_of source 0)) (choice_by source l) 4 b 128 lt (run_full real len (number_of (why_of source 0)) (choice_by source l) b _ h.ran (subst (λ (n : ℕ). n < first_free (real.size b) (real.rays b) (slots marks) end + real.size b) h.marks_long f)))
+        ap (ended len) (built_is source len ∙ refusal_stays real len (number_of (why_of source 0)) (choice_by source) 4 b 128 lt (run_full real len (number_of (why_of source 0)) (choice_by source) b _ h.ran (subst (λ (n : ℕ). n < first_free (real.size b) (real.rays b) (slots marks) end + real.size b) h.marks_long f)))
         ∙ ap (λ (q : Refusal). empty (number_of q) (values_of q) (replicate len 0) (replicate len 0)) (sym e)
     ended_refused lt r (nothing f n e) =
-        ap (ended len) (built_is source l len ∙ refusal_stays real len (number_of (why_of source 0)) (choice_by source l) (number_of (why_of source 0)) b 128 lt (run_spent real len (number_of (why_of source 0)) (choice_by source l) b _ h.ran (subst (λ (k : ℕ). first_free (real.size b) (real.rays b) (slots marks) end + real.size b ≤ k) h.marks_long f) n))
+        ap (ended len) (built_is source len ∙ refusal_stays real len (number_of (why_of source 0)) (choice_by source) (number_of (why_of source 0)) b 128 lt (run_spent real len (number_of (why_of source 0)) (choice_by source) b _ h.ran (subst (λ (k : ℕ). first_free (real.size b) (real.rays b) (slots marks) end + real.size b ≤ k) h.marks_long f) n))
         ∙ why source ∙ ap (λ (q : Refusal). empty (number_of q) (values_of q) (replicate len 0) (replicate len 0)) (sym e)
       where
         why : (s : Source) → ended len (refused (number_of (why_of s 0)) b) ≡ empty (number_of (why_of s b)) (values_of (why_of s b)) (replicate len 0) (replicate len 0)
         why (Seed seed budget) = refl
-        why Lent = refl
+        why (Lent l) = refl
 
   -- ---- all blocks went in
 
-  pub ended_done : {b : ℕ} {table marks : List ℕ} {records : List Record} {counts : List ℕ} {end : ℕ} → b ≡ 128 → Sofar source l len b table marks records counts end → leaves (record { outcome = Built; records = records; counts = counts; used = end }) table marks ≡ ended len (built source l len)
+  pub ended_done : {b : ℕ} {table marks : List ℕ} {records : List Record} {counts : List ℕ} {end : ℕ} → b ≡ 128 → Sofar source len b table marks records counts end → leaves (Ok (record { records = records; counts = counts; used = end })) table marks ≡ ended len (built source len)
   ended_done {b} {table} {marks} {records} {counts} {end} e h =
-      shown_all ∙ sym (ap (ended len) (built_is source l len ∙ ap (run_to source l len) (sym e) ∙ h.ran))
+      shown_all ∙ sym (ap (ended len) (built_is source len ∙ ap (run_to source len) (sym e) ∙ h.ran))
     where
-      shown_all : leaves (record { outcome = Built; records = records; counts = counts; used = end }) table marks ≡ ended len (done (state_of table marks records counts end))
+      shown_all : leaves (Ok (record { records = records; counts = counts; used = end })) table marks ≡ ended len (done (state_of table marks records counts end))
       shown_all =
           λ i. record {
             says = gives tt;

@@ -1,23 +1,23 @@
--- A block's turn: from what the code found to `turn`, and from `turn` to what stands behind it.
+-- A block's turn: what stands behind `turn`.
 -- Assumes nothing.
 use Prim.Native.Nat.{ℕ, ◌+◌, ◌≤◌, ◌<◌}
-use mathlib.Core.Path.{◌≡◌, refl, sym, ap, ap₂, ◌∙◌}
+use mathlib.Core.Path.{◌≡◌, refl, sym, ap, ◌∙◌}
 use mathlib.Core.Bool.{Bool, true, false}
 use mathlib.Core.List.{List}
 use native.Mathlib.Omega.{arith}
-use borrow.Author.Tests.{leb-true, leb-false, le-leb, lt-leb}
+use borrow.Author.Tests.{leb-true, leb-false}
 use lib.Dec.{leb}
 use lib.ListN.{length}
 use Rattle.bits.proofs.Least.{least_le}
 use Rattle.refusal.specs.declared.Refusal.{Refusal}
 use Rattle.refusal.specs.declared.Refusal.TheVariants.{NoRoom}
 use Rattle.packing.specs.declared.Taken.{Taken}
-use Rattle.packing.specs.declared.Choice.{Choice}
-use Rattle.packing.specs.declared.Choice.TheVariants.{None, Chosen}
+use Rattle.std.specs.Prelude.{Option, Some, None, Ok, Err}
+use Rattle.std.specs.Option.{ok_or}
 use Rattle.packing.specs.Pack.{free, first_free}
 use Rattle.blocks.specs.Real.{real}
 use Rattle.gen_magic.specs.declared.Source.{Source}
-use Rattle.gen_magic.specs.declared.Settled.TheVariants.{At, Refused}
+use Rattle.gen_magic.specs.declared.Settled.{Settled}
 use Rattle.gen_magic.specs.Builds.{slots}
 use Rattle.gen_magic.specs.Turn.{choice_by, why_of, turn_by, turn}
 
@@ -29,61 +29,37 @@ pub first_low : (size rays : ℕ) (marks : ℕ → ℕ) (end : ℕ) → first_fr
 unfolding first_free
 first_low size rays marks end = least_le end (free size rays marks)
 
-module _ (source : Source) (l : List ℕ) (b end : ℕ) (marks : List ℕ) where
+module _ (source : Source) (b end : ℕ) (marks : List ℕ) where
   -- the block's place
   abbrev pub place_in : ℕ
   place_in = first_free (real.size b) (real.rays b) (slots marks) end
 
-  -- ---- from the code
-
-  module _ (size rays p : ℕ) (es : size ≡ real.size b) (er : rays ≡ real.rays b) (ep : p ≡ first_free size rays (slots marks) end) where
-    place_is : p ≡ place_in
-    place_is = ep ∙ ap₂ (λ (x y : ℕ). first_free x y (slots marks) end) es er
-
-    told : (c : Bool) (q : Choice) → leb (p + size) (length marks) ≡ c → choice_by source l b ≡ q → turn_by source b p c q ≡ turn source l b end marks
-    unfolding turn
-    told c q ec eq =
-        ap₂ (turn_by source b p) (sym ec) (sym eq)
-        ∙ ap₂ (λ (x y : ℕ). turn_by source b x (leb (x + y) (length marks)) (choice_by source l b)) place_is es
-
-    pub no_room : length marks < p + size → Refused (NoRoom b) ≡ turn source l b end marks
-    no_room h = told false (choice_by source l b) (lt-leb (p + size) (length marks) h) refl
-
-    pub chosen : (x : Taken) → p + size ≤ length marks → choice_by source l b ≡ Chosen x → At p x ≡ turn source l b end marks
-    chosen x h e = told true (Chosen x) (le-leb (p + size) (length marks) h) e
-
-    pub none_chosen : (r : Refusal) → p + size ≤ length marks → choice_by source l b ≡ None → r ≡ why_of source b → Refused r ≡ turn source l b end marks
-    none_chosen r h e q = ap Refused q ∙ told true None (le-leb (p + size) (length marks) h) e
-
-  -- ---- to the code
-
-  pub record Goes (p : ℕ) (x : Taken) : Type 0 where
-    pub place_is : p ≡ place_in
+  pub record Goes (t : Settled) : Type 0 where
+    pub place_is : t.place ≡ place_in
     pub room : place_in + real.size b ≤ length marks
-    pub chose : choice_by source l b ≡ Chosen x
+    pub chose : choice_by source b ≡ Some t.taken
 
-  pub goes : (p : ℕ) (x : Taken) → At p x ≡ turn source l b end marks → Goes p x
+  pub goes : (t : Settled) → Ok t ≡ turn source b end marks → Goes t
   unfolding turn
-  goes p x e = go (leb (place_in + real.size b) (length marks)) (choice_by source l b) refl refl e
+  goes t e = go (leb (place_in + real.size b) (length marks)) (choice_by source b) refl refl e
     where
-      go : (c : Bool) (q : Choice) → leb (place_in + real.size b) (length marks) ≡ c → choice_by source l b ≡ q → At p x ≡ turn_by source b place_in c q → Goes p x
+      go : (c : Bool) (q : Option Taken) → leb (place_in + real.size b) (length marks) ≡ c → choice_by source b ≡ q → Ok t ≡ turn_by b place_in c (ok_or q (why_of source b)) → Goes t
       go false q ec eq e = absurd (apart cc)
       go true None ec eq e = absurd (apart cc)
-      go true (Chosen y) ec eq e =
-          let ep : p ≡ place_in = cc in
-          let ey : y ≡ x = cc in
-          record { place_is = ep; room = leb-true (place_in + real.size b) (length marks) ec; chose = eq ∙ ap Chosen ey }
+      go true (Some y) ec eq e =
+          let es : t ≡ record { place = place_in; taken = y } = cc in
+          record { place_is = ap (λ (t : Settled). t.place) es; room = leb-true (place_in + real.size b) (length marks) ec; chose = eq ∙ ap (λ (t : Settled). Some t.taken) (sym es) }
 
   -- what ended the build
   pub data Stops (r : Refusal) : Type 0 where
     full : length marks < place_in + real.size b → r ≡ NoRoom b → Stops r
-    nothing : place_in + real.size b ≤ length marks → choice_by source l b ≡ None → r ≡ why_of source b → Stops r
+    nothing : place_in + real.size b ≤ length marks → choice_by source b ≡ None → r ≡ why_of source b → Stops r
 
-  pub stops : (r : Refusal) → Refused r ≡ turn source l b end marks → Stops r
+  pub stops : (r : Refusal) → Err r ≡ turn source b end marks → Stops r
   unfolding turn
-  stops r e = go (leb (place_in + real.size b) (length marks)) (choice_by source l b) refl refl e
+  stops r e = go (leb (place_in + real.size b) (length marks)) (choice_by source b) refl refl e
     where
-      go : (c : Bool) (q : Choice) → leb (place_in + real.size b) (length marks) ≡ c → choice_by source l b ≡ q → Refused r ≡ turn_by source b place_in c q → Stops r
+      go : (c : Bool) (q : Option Taken) → leb (place_in + real.size b) (length marks) ≡ c → choice_by source b ≡ q → Err r ≡ turn_by b place_in c (ok_or q (why_of source b)) → Stops r
       go false q ec eq e = let er : r ≡ NoRoom b = cc in full (leb-false (place_in + real.size b) (length marks) ec) er
       go true None ec eq e = let er : r ≡ why_of source b = cc in nothing (leb-true (place_in + real.size b) (length marks) ec) eq er
-      go true (Chosen y) ec eq e = absurd (apart cc)
+      go true (Some y) ec eq e = absurd (apart cc)

@@ -1,6 +1,7 @@
 -- The two builds: what each hands back and leaves. 01, "Packing" and "Numbers handed back".
-use Rattle.std.specs.Prelude.{ℕ, Bool, true, false, not, List, [], ◌∷◌, eqb, ltb, length, get_or, replicate}
-use Rattle.refusal.specs.Paper.{Said, gives, refuses, refused}
+use Rattle.std.specs.Prelude.{ℕ, Bool, true, false, not, List, [], ◌∷◌, eqb, ltb, length, get_or, replicate, Result, Ok, Err}
+use Rattle.refusal.specs.declared.Refusal.{Refusal}
+use Rattle.refusal.specs.Paper.{Said, gives, refuses, number_of, values_of}
 use Rattle.bits.specs.Shown.{shown}
 use Rattle.board.specs.Board.{mask}
 use Rattle.board.specs.Blocks.{kind_of, square_of, shift_of}
@@ -9,8 +10,6 @@ use Rattle.packing.specs.Pack as Pack
 use Rattle.packing.specs.Pack.{seed_build, lent_build}
 use Rattle.blocks.specs.Real.{real}
 use Rattle.gen_magic.specs.declared.Record.{Record}
-use Rattle.gen_magic.specs.declared.Outcome.{Outcome}
-use Rattle.gen_magic.specs.declared.Outcome.TheVariants.{Built, Refused}
 use Rattle.gen_magic.specs.declared.Build.{Build}
 
 -- the slots of a list: what each holds, 0 past the length
@@ -33,11 +32,6 @@ record_in records b = get_or records b no_record
 abbrev pub record_of : Pack.State → ℕ → Record
 record_of s b = record_at b (s.taken b).multiplier (s.offset b)
 
--- an outcome in the paper's terms
-abbrev pub told : Outcome → Said Unit
-told Built = gives tt
-told (Refused r) = refused r
-
 -- all that a build hands back, and what it leaves of its loans
 pub record Left : Type 0 where
   pub says : Said Unit
@@ -46,10 +40,6 @@ pub record Left : Type 0 where
   pub used : ℕ
   pub table : List ℕ
   pub marks : List ℕ
-
-abbrev pub leaves : Build → List ℕ → List ℕ → Left
-leaves b table marks =
-    record { says = told b.outcome; records = b.records; counts = b.counts; used = b.used; table = table; marks = marks }
 
 -- a refusal's number and values beside zeros: "records, counts all 0, used 0"
 abbrev pub empty : ℕ → List ℕ → List ℕ → List ℕ → Left
@@ -62,6 +52,12 @@ empty number values table marks =
       table = table;
       marks = marks;
     }
+
+-- what was built; a refusal stands beside zeros
+abbrev pub leaves : Result Build Refusal → List ℕ → List ℕ → Left
+leaves (Ok b) table marks =
+    record { says = gives tt; records = b.records; counts = b.counts; used = b.used; table = table; marks = marks }
+leaves (Err r) table marks = empty (number_of r) (values_of r) table marks
 
 -- a build in `len` slots of table and marks. 4, 5 and 6: "block; table, marks, records, counts all 0, used 0"
 abbrev pub ended : ℕ → Pack.Outcome → Left

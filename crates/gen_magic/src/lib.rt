@@ -7,15 +7,15 @@
 // Adds: the attempt budget, the room, the build from lent multipliers, the outcome with its refusal.
 #![tactic(auto)]
 
-ghost use Rattle.std.specs.Prelude.{◌≡◌, ℕ, ◌+◌, ◌^◌, ◌≤◌, ◌<◌, max, get_or, length, replicate};
+ghost use Rattle.std.specs.Prelude.{◌≡◌, ℕ, ◌+◌, ◌^◌, ◌≤◌, ◌<◌, max, get_or, length, replicate, IfOk};
 ghost use Rattle.packing.specs.Pack.{free, first_free};
 ghost use Rattle.blocks.specs.Real.{real};
-ghost use Rattle.gen_magic.specs.Builds.{slots, no_record, record_at, leaves, empty, ended, from_seed, from_lent};
-ghost use Rattle.refusal.specs.Paper.{number_of, values_of};
-ghost use Rattle.gen_magic.specs.Turn.{ored, choice_by, why_of, turn, built};
+ghost use Rattle.gen_magic.specs.Builds.{slots, record_at, leaves, ended, from_seed, from_lent};
+ghost use Rattle.gen_magic.specs.Turn.{ored, chosen, turn, built, unless_refused};
 
-use packing::{Choice, Taken};
+use packing::Taken;
 use refusal::Refusal;
+use std::cmp::max;
 
 // ---- what a build hands back
 
@@ -29,26 +29,12 @@ pub struct Record {
     pub shift: u8,
 }
 
-// How a build ended; a refusal carries its block.
-#[derive(Clone, Copy)]
-pub enum Outcome {
-    Built,
-    Refused(Refusal),
-}
-
+// What a build hands back of all its blocks; one that is refused hands back the refusal alone, with its block.
 #[derive(Drop)]
 pub struct Build {
-    pub outcome: Outcome,
     pub records: [Record; 128],
     pub counts: [u64; 128],
     pub used: usize,
-}
-
-// Where the multipliers of a build come from.
-#[derive(Clone, Copy)]
-pub enum Source {
-    Seed { seed: u64, budget: u64 },
-    Lent,
 }
 
 // ---- the first free place
@@ -57,10 +43,7 @@ pub enum Source {
 fn slot_at(slots: &[u64], i: usize) -> u64
     ensures { result ≡ get_or slots.now i 0 }
 {
-    if i < slots.len() {
-        return slots[i];
-    }
-    0
+    slots.get(i).copied().unwrap_or(0)
 }
 
 // Whether the marks at i up to i + size - 1 share no bit with the rays.
@@ -68,14 +51,7 @@ fn is_free(marks: &[u64], i: usize, size: usize, rays: u64) -> bool
     requires { i + size < 2 ^ 64 }
     ensures { result ≡ free size rays (slots marks.now) i }
 {
-    let mut j: usize = 0;
-    while j < size {
-        if slot_at(marks, i + j) & rays != 0 {
-            return false;
-        }
-        j += 1;
-    }
-    true
+    (0..size).all(|j| slot_at(marks, i + j) & rays == 0)
 }
 
 // The smallest free place below the end; if there is none, the end.
@@ -83,14 +59,9 @@ fn first_free(marks: &[u64], end: usize, size: usize, rays: u64) -> usize
     requires { end + size < 2 ^ 64 }
     ensures { result ≡ first_free size rays (slots marks.now) end }
 {
-    let mut i: usize = 0;
-    while i < end {
-        if is_free(marks, i, size, rays) {
-            return i;
-        }
-        i += 1;
-    }
-    end
+    (0..end)
+        .find(|i| is_free(marks, *i, size, rays))
+        .unwrap_or(end)
 }
 
 // ---- the writing of a block
@@ -104,14 +75,14 @@ fn or_block(block: usize, multiplier: u64, table: &mut [u64], marks: &mut [u64])
     let size = magic_helpers::size_at(block);
     let shift = magic_helpers::shift_at(block);
     let rays = rays::rays_at(block);
-    let mut i: usize = 0;
-    while i < size {
+    prove!(size <= 4096);
+    for i in 0..size {
         let question = magic_helpers::subset_at(block, i as u64);
         let walk = magic_helpers::walk_at(block, question);
         let at = bitboard::to_size(bitboard::mul(multiplier, question), shift);
-        table[at] = table[at] | walk;
-        marks[at] = marks[at] | rays;
-        i += 1;
+        prove!(at < size);
+        table[at] |= walk;
+        marks[at] |= rays;
     }
 }
 
@@ -130,59 +101,63 @@ fn write(block: usize, multiplier: u64, place: usize, table: &mut [u64], marks: 
     );
 }
 
-// All slots 0.
-fn clear(slots: &mut [u64])
-    ensures { slots.new ≡ replicate (length slots.old) 0 }
+// All slots of both 0.
+fn clear(table: &mut [u64], marks: &mut [u64])
+    ensures table_after { table.new ≡ replicate (length table.old) 0 }
+    ensures marks_after { marks.new ≡ replicate (length marks.old) 0 }
 {
-    let mut i: usize = 0;
-    while i < slots.len() {
-        slots[i] = 0;
-        i += 1;
-    }
+    table.fill(0);
+    marks.fill(0);
 }
 
 // ---- one block
 
-// Where a block goes and what is taken for it, or the refusal that ends the build.
-#[derive(Drop)]
-pub enum Settled {
-    At { place: usize, taken: Taken },
-    Refused(Refusal),
+// Where the multipliers of a build come from.
+#[derive(Clone, Copy)]
+enum Source<'a> {
+    Seed { seed: u64, budget: u64 },
+    Lent(&'a [u64]),
 }
 
-fn choose(source: Source, multipliers: &[u64], block: usize) -> Choice
-    ensures { result ≡ choice_by source multipliers.now block }
-{
-    match source {
-        Source::Seed { seed, budget } => candidates::search_at(block, seed, budget),
-        Source::Lent => candidates::lent_at(block, slot_at(multipliers, block)),
+impl Source<'_> {
+    // What is taken for a block, or the refusal where nothing is: 5 or 6.
+    #[tactic(auto, unfolding(packing::specs::Pack::by_lent))]
+    fn choose(self, block: usize) -> Result<Taken, Refusal>
+        ensures { result ≡ chosen self.entry block }
+    {
+        match self {
+            Source::Seed { seed, budget } => {
+                candidates::search_at(block, seed, budget).ok_or(Refusal::Spent { block })
+            }
+            Source::Lent(multipliers) => {
+                let multiplier = slot_at(multipliers, block);
+                candidates::lent_at(block, multiplier).ok_or(Refusal::Collides { block })
+            }
+        }
     }
 }
 
-// The refusal of a block for which nothing is chosen.
-fn unchosen(source: Source, block: usize) -> Refusal
-    ensures { result ≡ why_of source block }
-{
-    match source {
-        Source::Seed { seed: _, budget: _ } => Refusal::Spent { block },
-        Source::Lent => Refusal::Collides { block },
-    }
+// Where a block goes and what is taken for it.
+#[derive(Clone, Copy)]
+struct Settled {
+    place: usize,
+    taken: Taken,
 }
 
 // Within a block 4 before 5 or 6.
-fn settle(source: Source, multipliers: &[u64], block: usize, end: usize, marks: &[u64]) -> Settled
+#[tactic(auto, using(std::proofs::lemmas::Bool::Decides::nat_tests), unfolding(crate::specs::Turn::turn))]
+fn settle(source: Source, block: usize, end: usize, marks: &[u64]) -> Result<Settled, Refusal>
     requires { (end ≤ 107648) × (end ≤ length marks.now) }
-    ensures { result ≡ turn source multipliers.now block end marks.now }
+    ensures is { result ≡ turn source.entry block end marks.now }
+    ensures fits { IfOk result (λ s. (s.place + real.size block ≤ length marks.now) × (s.place ≤ end)) }
 {
     let size = magic_helpers::size_at(block);
     let place = first_free(marks, end, size, rays::rays_at(block));
     if place + size > marks.len() {
-        return Settled::Refused(Refusal::NoRoom { block });
+        return Err(Refusal::NoRoom { block });
     }
-    match choose(source, multipliers, block) {
-        Choice::Chosen(taken) => Settled::At { place, taken },
-        Choice::None => Settled::Refused(unchosen(source, block)),
-    }
+    let taken = source.choose(block)?;
+    Ok(Settled { place, taken })
 }
 
 // ---- the builds
@@ -199,46 +174,10 @@ fn record_of(block: usize, multiplier: u64, place: usize) -> Record
     }
 }
 
-fn larger(a: usize, b: usize) -> usize
-    ensures { result ≡ max a b }
-{
-    if a < b {
-        return b;
-    }
-    a
-}
-
-// What is handed back where nothing was built.
-fn nothing(refusal: Refusal) -> Build
-    ensures { result ≡ record { outcome = Outcome.Refused refusal; records = replicate 128 no_record; counts = replicate 128 0; used = 0 } }
-{
-    let none = Record {
-        multiplier: 0,
-        mask: 0,
-        offset: 0,
-        shift: 0,
-    };
-    Build {
-        outcome: Outcome::Refused(refusal),
-        records: [none; 128],
-        counts: [0u64; 128],
-        used: 0,
-    }
-}
-
-// A build refused on the way leaves table, marks and records all zero.
-fn stop(refusal: Refusal, written: &mut [u64], marked: &mut [u64]) -> Build
-    ensures { leaves result written.new marked.new ≡ empty (number_of refusal) (values_of refusal) (replicate (length written.old) 0) (replicate (length marked.old) 0) }
-{
-    clear(written);
-    clear(marked);
-    nothing(refusal)
-}
-
-// Blocks 0 to 127, in order, into slots that are all 0.
-fn gen_blocks(source: Source, multipliers: &[u64], table: &mut [u64], marks: &mut [u64]) -> Build
+// Blocks 0 to 127, in order, into slots that are all 0. Where a block is refused, what went in before it stays.
+fn gen_blocks(source: Source, table: &mut [u64], marks: &mut [u64]) -> Result<Build, Refusal>
     requires { (length marks.old ≡ length table.old) × (table.old ≡ replicate (length table.old) 0) × (marks.old ≡ replicate (length table.old) 0) }
-    ensures { leaves result table.new marks.new ≡ ended (length table.old) (built source multipliers.now (length table.old)) }
+    ensures { leaves result (unless_refused result table.new) (unless_refused result marks.new) ≡ ended (length table.old) (built source.entry (length table.old)) }
 {
     let none = Record {
         multiplier: 0,
@@ -249,61 +188,66 @@ fn gen_blocks(source: Source, multipliers: &[u64], table: &mut [u64], marks: &mu
     let mut records = [none; 128];
     let mut counts = [0u64; 128];
     let mut end: usize = 0;
-    let mut block: usize = 0;
-    while block < 128 {
-        match settle(source, multipliers, block, end, marks) {
-            Settled::At { place, taken } => {
-                write(block, taken.multiplier, place, table, marks);
-                records[block] = record_of(block, taken.multiplier, place);
-                counts[block] = taken.count;
-                end = larger(end, place + magic_helpers::size_at(block));
-                block += 1;
-            }
-            Settled::Refused(refusal) => return stop(refusal, table, marks),
-        }
+    for block in 0..128 {
+        let Settled { place, taken } = settle(source, block, end, marks)?;
+        write(block, taken.multiplier, place, table, marks);
+        records[block] = record_of(block, taken.multiplier, place);
+        counts[block] = taken.count;
+        end = max(end, place + magic_helpers::size_at(block));
     }
-    Build {
-        outcome: Outcome::Built,
+    Ok(Build {
         records,
         counts,
         used: end,
-    }
+    })
 }
 
-// Whatever the memory held, before block 0 all table and mark slots are 0.
-fn gen_from(source: Source, multipliers: &[u64], table: &mut [u64], marks: &mut [u64]) -> Build
+// Whatever the memory held, before block 0 all table and mark slots are 0; so they are after a refusal.
+fn gen_from(source: Source, table: &mut [u64], marks: &mut [u64]) -> Result<Build, Refusal>
     requires { length marks.old ≡ length table.old }
-    ensures { leaves result table.new marks.new ≡ ended (length table.old) (built source multipliers.now (length table.old)) }
+    ensures { leaves result table.new marks.new ≡ ended (length table.old) (built source.entry (length table.old)) }
 {
-    clear(table);
-    clear(marks);
-    gen_blocks(source, multipliers, table, marks)
+    clear(table, marks);
+    let built = gen_blocks(source, table, marks);
+    if built.is_err() {
+        clear(table, marks);
+    }
+    built
 }
 
 // The build from a seed: 10, then 3.
 #[tactic(auto, using(std::proofs::lemmas::Bool::Decides::nat_tests), unfolding(crate::specs::Builds::from_seed))]
-pub fn gen_all_magic(seed: u64, budget: u64, table: &mut [u64], marks: &mut [u64]) -> Build
+pub fn gen_all_magic(
+    seed: u64,
+    budget: u64,
+    table: &mut [u64],
+    marks: &mut [u64],
+) -> Result<Build, Refusal>
     ensures { leaves result table.new marks.new ≡ from_seed seed budget table.old marks.old }
 {
     if budget > 16777216 {
-        return nothing(Refusal::Budget);
+        return Err(Refusal::Budget);
     }
     if table.len() != marks.len() {
-        return nothing(Refusal::LengthsDiffer);
+        return Err(Refusal::LengthsDiffer);
     }
-    let unused = [0u64; 128];
-    gen_from(Source::Seed { seed, budget }, &unused, table, marks)
+    gen_from(Source::Seed { seed, budget }, table, marks)
 }
 
 // The build from lent multipliers, in block order: 9, then 3.
-pub fn gen_all_lent(multipliers: &[u64], table: &mut [u64], marks: &mut [u64]) -> Build
+#[tactic(auto, using(std::proofs::lemmas::Bool::Decides::nat_tests), unfolding(crate::specs::Builds::from_lent))]
+pub fn gen_all_lent(
+    multipliers: &[u64],
+    table: &mut [u64],
+    marks: &mut [u64],
+) -> Result<Build, Refusal>
     ensures { leaves result table.new marks.new ≡ from_lent multipliers.now table.old marks.old }
 {
     if multipliers.len() != 128 {
-        return nothing(Refusal::Length);
+        return Err(Refusal::Length);
     }
     if table.len() != marks.len() {
-        return nothing(Refusal::LengthsDiffer);
+        return Err(Refusal::LengthsDiffer);
     }
-    gen_from(Source::Lent, multipliers, table, marks)
+    gen_from(Source::Lent(multipliers), table, marks)
 }

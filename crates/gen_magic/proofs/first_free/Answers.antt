@@ -1,23 +1,17 @@
--- `gen_magic::first_free` meets its contract: no place before i is free.
-use Prim.Native.Nat.{zero-le}
-use mathlib.Core.Path.{sym, ◌∙◌}
-use native.Mathlib.Nat.{not-suc-le-zero}
-use native.Mathlib.Omega.{arith}
-use borrow.Author.Count.{below_more}
-use Rattle.bits.proofs.Least.{least_is, least_none}
-use Rattle.packing.specs.Pack.{first_free}
+-- `gen_magic::first_free` meets its contract.
+use Rattle.std.proofs.Common.{ℕ, ◌∙◌, ap, sym, Bool, refl, arith, rules, tests}
+use Rattle.std.proofs.lemmas.Iterator.{YieldsList-from_range}
+use Rattle.std.proofs.lemmas.Iterator.Adapters.{option_map_id}
+use Rattle.std.proofs.lemmas.Iterator.Search.{find_from_yields_List}
+use Rattle.std.specs.Prelude.{Option, unwrap_or}
+use Rattle.packing.specs.Pack.{free, first_free}
+use Rattle.gen_magic.specs.Builds.{slots}
+use Rattle.gen_magic.proofs.Ranges.{range_find}
 use Rattle.gen_magic.proofs.first_free.Goals as goal
-
-pub loop-i-init : goal.loop-i-init
-loop-i-init c = (zero-le, λ k l. absurd (not-suc-le-zero l))
-
-pub returns-then-is_free : goal.returns-then-is_free
-unfolding first_free
-returns-then-is_free c = sym (least_is c.args.end _ c.loop-i.i c.loop-i-test.true (sym c.is_free.ensures ∙ c.if-is_free.true) c.loop-i.invariant.1)
-
-pub loop-i-preserved : goal.loop-i-preserved
-loop-i-preserved c = (omega arith, below_more _ _ c.loop-i.invariant.1 (sym c.is_free.ensures ∙ c.if-is_free.false))
 
 pub returns : goal.returns
 unfolding first_free
-returns c = sym (least_none c.args.end _ (λ k l. c.loop-i.invariant.1 k (omega arith)))
+returns c = let a = c.args in
+    let p : ℕ → Bool = free a.size a.rays (slots a.marks.now) in
+    let found = find_from_yields_List p _ _ c.find.result c.find.ensures.ran (YieldsList-from_range 0 a.end a.end refl (omega arith)) (λ x b q k. search (rules, tests)) in
+    c.unwrap_or.ensures ∙ ap (λ (o : Option ℕ). unwrap_or o a.end) (sym (option_map_id c.find.result) ∙ found) ∙ range_find p a.end

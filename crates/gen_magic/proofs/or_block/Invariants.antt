@@ -1,14 +1,13 @@
 -- `gen_magic::or_block` meets its contract: after i turns the first i subsets are ORed in.
-use Prim.Native.Nat.{◌-◌, ◌≤◌}
 use mathlib.Core.Path.{◌≡◌}
-use lib.ListN.{length}
 use Rattle.blocks.specs.Real.{real}
 use Rattle.gen_magic.specs.Builds.{slots}
 use Rattle.gen_magic.specs.Turn.{ored}
 use Rattle.gen_magic.proofs.or_block.Given as goal
 
 abbrev pub invariant-loop-i : goal.invariant-loop-i
-invariant-loop-i l = (l.i ≤ l.size) × (length l.table ≡ length l.initial.table) × (length l.marks ≡ length l.initial.marks) × (slots l.table ≡ ored (real.index l.block l.multiplier) (real.walk l.block) l.i (slots l.initial.table)) × (slots l.marks ≡ ored (real.index l.block l.multiplier) (λ _. real.rays l.block) l.i (slots l.initial.marks))
-
-abbrev pub decreases-loop-i : goal.decreases-loop-i
-decreases-loop-i l = l.size - l.i
+invariant-loop-i l =
+    record {
+      table_is : slots l.table ≡ ored (real.index l.block l.multiplier) (real.walk l.block) l.i (slots l.initial.table);
+      marks_is : slots l.marks ≡ ored (real.index l.block l.multiplier) (λ _. real.rays l.block) l.i (slots l.initial.marks);
+    }
