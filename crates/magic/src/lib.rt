@@ -12,7 +12,7 @@ ghost use Rattle.refusal.specs.Paper.{said};
 ghost use Rattle.board.specs.Board.{on_block};
 ghost use Rattle.board.specs.Blocks.{kind_of, square_of};
 ghost use Rattle.magic.specs.LookUp.{slot_in, look_with, look_up};
-ghost use Rattle.magic.specs.Audit.{exact, checked, subset_says, block_says, blocks_say, audit_says};
+ghost use Rattle.magic.specs.Audit.{exact, checked, Own, subset_says, block_says, blocks_say, audit_says};
 
 use gen_magic::Record;
 use refusal::{Answer, Refusal};
@@ -72,13 +72,6 @@ pub fn get_bishop_moves(sq: u8, blockers: u64, magic: Record, table: &[u64]) -> 
 
 // ---- the audit
 
-// What a part of the audit found.
-#[derive(Clone, Copy)]
-pub enum Check {
-    Holds,
-    Fails(Refusal),
-}
-
 // Whether mask and shift are the block's own.
 fn is_exact(block: usize, magic: Record) -> bool
     ensures { result ≡ exact block magic }
@@ -86,51 +79,47 @@ fn is_exact(block: usize, magic: Record) -> bool
     (magic.mask == magic_helpers::mask_at(block)) & (magic.shift == magic_helpers::shift_at(block))
 }
 
-// A refused look-up is taken apart first and passed on: the record is exact, so it is 7.
-fn check_subset(block: usize, subset: usize, magic: Record, table: &[u64]) -> Check
-    requires { (52 ≤ magic.shift) × (magic.shift ≤ 59) }
+// A refused look-up is taken apart first and passed on: the record is the block's own, so it is 7.
+fn check_subset(
+    block: usize,
+    subset: usize,
+    magic: Record,
+    table: &[u64],
+) -> Result<(), Refusal>
+    requires { Own block magic }
     ensures { checked result ≡ subset_says block magic table.now subset }
 {
     let question = magic_helpers::subset_at(block, subset as u64);
     let Answer::Gives(found) = look_up(block, question, magic, table) else {
-        return Check::Fails(Refusal::IndexAt { block, subset });
+        return Err(Refusal::IndexAt { block, subset });
     };
     if found != magic_helpers::walk_at(block, question) {
-        return Check::Fails(Refusal::SlotAt { block, subset });
+        return Err(Refusal::SlotAt { block, subset });
     }
-    Check::Holds
+    Ok(())
 }
 
 // Mask and shift, then subsets in order.
-fn check_block(block: usize, magic: Record, table: &[u64]) -> Check
+fn check_block(block: usize, magic: Record, table: &[u64]) -> Result<(), Refusal>
     ensures { checked result ≡ block_says block magic table.now }
 {
     if !is_exact(block, magic) {
-        return Check::Fails(Refusal::RecordAt { block });
+        return Err(Refusal::RecordAt { block });
     }
-    let size = magic_helpers::size_at(block);
-    let mut subset: usize = 0;
-    while subset < size {
-        match check_subset(block, subset, magic, table) {
-            Check::Holds => subset += 1,
-            Check::Fails(refusal) => return Check::Fails(refusal),
-        }
+    for subset in 0..magic_helpers::size_at(block) {
+        check_subset(block, subset, magic, table)?;
     }
-    Check::Holds
+    Ok(())
 }
 
 // The first failing block decides.
-fn check_blocks(records: [Record; 128], table: &[u64]) -> Check
+fn check_blocks(records: [Record; 128], table: &[u64]) -> Result<(), Refusal>
     ensures { checked result ≡ blocks_say records table.now }
 {
-    let mut block: usize = 0;
-    while block < 128 {
-        match check_block(block, records[block], table) {
-            Check::Holds => block += 1,
-            Check::Fails(refusal) => return Check::Fails(refusal),
-        }
+    for (block, magic) in records.iter().enumerate() {
+        check_block(block, *magic, table)?;
     }
-    Check::Holds
+    Ok(())
 }
 
 // On acceptance the reach: the end of block 127.
@@ -138,10 +127,10 @@ pub fn audit(records: [Record; 128], table: &[u64]) -> Answer
     ensures { said result ≡ audit_says records table.now }
 {
     match check_blocks(records, table) {
-        Check::Holds => {
+        Ok(()) => {
             let last = records[127];
             Answer::Gives(last.offset as u64 + magic_helpers::size_at(127) as u64)
         }
-        Check::Fails(refusal) => Answer::Refuses(refusal),
+        Err(refusal) => Answer::Refuses(refusal),
     }
 }

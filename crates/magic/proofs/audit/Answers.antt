@@ -11,13 +11,13 @@ use Rattle.magic.proofs.audit.Goals as goal
 pub overflow_add-result : goal.overflow_add-result
 overflow_add-result c = omega (arith, c.size_at.ensures, block_size_high 127)
 
-pub returns-in-Holds : goal.returns-in-Holds
+pub returns-in-Ok : goal.returns-in-Ok
 unfolding audit_says reach_of
-returns-in-Holds c = let a = c.args in
+returns-in-Ok c = let a = c.args in
     ap (λ (n : ℕ). gives ((record_in a.records 127).offset + n)) c.size_at.ensures
-    ∙ ap (λ (x : Said Unit). and_then x (λ _. gives (reach_of a.records))) c.in-Holds.ensures
+    ∙ ap (λ (x : Said Unit). and_then x (λ _. gives (reach_of a.records))) c.in-Ok.ensures
 
-pub returns-in-Fails : goal.returns-in-Fails
+pub returns-in-Err : goal.returns-in-Err
 unfolding audit_says
-returns-in-Fails c = let a = c.args in
-    ap (λ (x : Said Unit). and_then x (λ _. gives (reach_of a.records))) c.in-Fails.ensures
+returns-in-Err c = let a = c.args in
+    ap (λ (x : Said Unit). and_then x (λ _. gives (reach_of a.records))) c.in-Err.ensures
