@@ -20,6 +20,7 @@ use refusal::{Answer, Refusal};
 // ---- the look-up
 
 // Offset and index in 64 bits: offset + index may pass 2 to the 32.
+#[tactic(auto, unfolding(crate::specs::LookUp::slot_in))]
 fn slot_in(magic: Record, blockers: u64) -> u64
     requires { (52 ≤ magic.shift) × (magic.shift ≤ 59) }
     ensures { result ≡ slot_in magic blockers }
@@ -29,6 +30,7 @@ fn slot_in(magic: Record, blockers: u64) -> u64
 }
 
 // With the rays at hand, for a batch that lists them once: 8, then 7.
+#[tactic(auto, using(std::proofs::lemmas::Bool::Decides::nat_tests), unfolding(crate::specs::LookUp::look_with))]
 pub fn look_with(rays: u64, blockers: u64, magic: Record, table: &[u64]) -> Answer
     ensures { said result ≡ look_with rays blockers magic table.now }
 {
@@ -49,6 +51,7 @@ fn look_up(block: usize, blockers: u64, magic: Record, table: &[u64]) -> Answer
     look_with(rays::rays_at(block), blockers, magic, table)
 }
 
+#[tactic(auto, using(board::proofs::Blocks::refused_block))]
 pub fn get_moves(kind: u8, sq: u8, blockers: u64, magic: Record, table: &[u64]) -> Answer
     ensures { said result ≡ on_block kind sq (look_up kind sq blockers magic table.now) }
 {
@@ -58,6 +61,7 @@ pub fn get_moves(kind: u8, sq: u8, blockers: u64, magic: Record, table: &[u64]) 
     }
 }
 
+// The original's two names stay, each one call.
 pub fn get_rook_moves(sq: u8, blockers: u64, magic: Record, table: &[u64]) -> Answer
     ensures { said result ≡ on_block 0 sq (look_up 0 sq blockers magic table.now) }
 {
@@ -73,6 +77,7 @@ pub fn get_bishop_moves(sq: u8, blockers: u64, magic: Record, table: &[u64]) -> 
 // ---- the audit
 
 // Whether mask and shift are the block's own.
+#[tactic(auto, unfolding(crate::specs::Audit::exact))]
 fn is_exact(block: usize, magic: Record) -> bool
     ensures { result ≡ exact block magic }
 {
@@ -80,6 +85,7 @@ fn is_exact(block: usize, magic: Record) -> bool
 }
 
 // A refused look-up is taken apart first and passed on: the record is the block's own, so it is 7.
+#[tactic(auto, using(crate::proofs::Audits::subset_refused, crate::proofs::Audits::subset_right, crate::proofs::Audits::subset_wrong))]
 fn check_subset(
     block: usize,
     subset: usize,
@@ -100,6 +106,7 @@ fn check_subset(
 }
 
 // Mask and shift, then subsets in order.
+#[tactic(auto, using(crate::proofs::Audits::exact_is, crate::proofs::Audits::block_8, crate::proofs::Audits::block_in, crate::proofs::Audits::turn_none, crate::proofs::Audits::turn_more))]
 fn check_block(block: usize, magic: Record, table: &[u64]) -> Result<(), Refusal>
     ensures { checked result ≡ block_says block magic table.now }
 {
@@ -113,6 +120,7 @@ fn check_block(block: usize, magic: Record, table: &[u64]) -> Result<(), Refusal
 }
 
 // The first failing block decides.
+#[tactic(auto, using(crate::proofs::Audits::turn_none, crate::proofs::Audits::turn_more), unfolding(crate::specs::Audit::blocks_say))]
 fn check_blocks(records: [Record; 128], table: &[u64]) -> Result<(), Refusal>
     ensures { checked result ≡ blocks_say records table.now }
 {
@@ -123,6 +131,7 @@ fn check_blocks(records: [Record; 128], table: &[u64]) -> Result<(), Refusal>
 }
 
 // On acceptance the reach: the end of block 127.
+#[tactic(auto, using(board::proofs::Sizes::block_size_high), unfolding(crate::specs::Audit::audit_says, crate::specs::Audit::reach_of))]
 pub fn audit(records: [Record; 128], table: &[u64]) -> Answer
     ensures { said result ≡ audit_says records table.now }
 {

@@ -7,19 +7,6 @@ use Rattle.magic.specs.Audit.{exact, in_turn, subset_says}
 use Rattle.magic.proofs.Audits.{turn_none, turn_more, turn_exits, exact_is, block_8, block_in}
 use Rattle.magic.proofs.check_block.Goals as goal
 
-pub returns-then-not-is_exact : goal.returns-then-not-is_exact
-returns-then-not-is_exact c = let a = c.args in
-    block_8 a.block a.magic a.table.now (sym c.is_exact.ensures ∙ c.if-not-is_exact.true)
-
-pub loop-subset-init : goal.loop-subset-init
-loop-subset-init c = turn_none _
-
-pub check_subset-requires : goal.check_subset-requires
-check_subset-requires c = exact_is _ _ (sym c.is_exact.ensures ∙ c.if-not-is_exact.false)
-
-pub loop-subset-preserved : goal.loop-subset-preserved
-loop-subset-preserved c = turn_more _ _ c.loop-subset.invariant (sym c.in_ok-check_subset.ensures)
-
 pub returns-in_err-check_subset : goal.returns-in_err-check_subset
 returns-in_err-check_subset c = let a = c.args in
     turn_exits (subset_says a.block a.magic a.table.now) c.loop-subset.subset _ _ _ (omega (arith, c.size_at-subset-end.ensures)) c.loop-subset.invariant c.in_err-check_subset.ensures c.from_residual.ensures.1

@@ -7,18 +7,6 @@ use Rattle.magic.specs.Audit.{in_turn, block_says, blocks_say}
 use Rattle.magic.proofs.Audits.{turn_none, turn_more, turn_exits}
 use Rattle.magic.proofs.check_blocks.Goals as goal
 
-pub loop-block-init : goal.loop-block-init
-loop-block-init c = turn_none _
-
-pub loop-block-preserved : goal.loop-block-preserved
-loop-block-preserved c = turn_more _ _ c.loop-block.invariant (sym c.in_ok-check_block.ensures)
-
-pub returns-in_err-check_block : goal.returns-in_err-check_block
-unfolding blocks_say
-returns-in_err-check_block c =
-    let a = c.args in
-    turn_exits (λ b. block_says b (record_in a.records b) a.table.now) c.loop-block.block 128 _ _ (omega arith) c.loop-block.invariant c.in_err-check_block.ensures c.from_residual.ensures.1
-
 pub returns : goal.returns
 unfolding blocks_say
 returns c =
@@ -26,3 +14,9 @@ returns c =
     let a = c.args in
     let e : l.block ≡ 128 = omega arith in
     sym l.invariant ∙ ap (λ (n : ℕ). in_turn n (λ b. block_says b (record_in a.records b) a.table.now)) e
+
+pub returns-in_err-check_block : goal.returns-in_err-check_block
+unfolding blocks_say
+returns-in_err-check_block c =
+    let a = c.args in
+    turn_exits (λ b. block_says b (record_in a.records b) a.table.now) c.loop-block.block 128 _ _ (omega arith) c.loop-block.invariant c.in_err-check_block.ensures c.from_residual.ensures.1
