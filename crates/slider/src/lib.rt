@@ -3,7 +3,7 @@
 // Holds: builds, look-ups (one query, and a batch over lent slices), PEXT fill and look-ups, walk, audit, one-block search,
 // rays, masks, sizes, shifts, subsets, square names and steps. A refusal is its number in 01's table, 0 stands for none.
 // Ports: nothing of its own.
-// Adds: flat structs in place of the enums, which do not cross the border.
+// Adds: flat structs in place of the enums, which do not cross the border, each with its `From`.
 #![tactic(auto)]
 
 ghost use Rattle.std.specs.Prelude.{◌≡◌, ℕ, [], ◌∷◌, length};
@@ -27,7 +27,7 @@ use gen_magic::{Build, Outcome, Record};
 use refusal::{Answer, Refusal};
 use square::{Name, Step};
 
-// ---- plain data
+// ---- plain data: numbers, flags and zeros in place of enums, since the C interface takes none
 
 // number: 0, or the refusal's; value: the answer, 0 where refused.
 #[repr(C)]
@@ -98,7 +98,7 @@ pub struct SliderStep {
     pub square: u64,
 }
 
-// ---- from enums to plain data
+// ---- from what a call hands back to plain data
 
 // A refusal's block and subset, each 0 where it has none.
 fn values(refusal: Refusal) -> [u64; 2]
@@ -394,8 +394,7 @@ pub fn slider_moves(kind: u8, sq: u8, blockers: u64, magic: Record, table: &[u64
 pub fn slider_audit(set: SliderRecords, table: &[u64]) -> SliderVerdict
     ensures { result ≡ verdict_of (audit_says set.records table.now) }
 {
-    let records = set.records;
-    magic::audit(records, table).into()
+    magic::audit(set.records, table).into()
 }
 
 // ---- batches: as many queries as each slice has; the rest of numbers and moves stays as it is
@@ -408,6 +407,7 @@ trait Asked {
         ensures { result ≡ answer_of (says self.now kind sq blockers) };
 }
 
+// Slices side by side, not of structs: the C interface hands them so.
 fn batch<A: Asked>(
     asked: &A,
     kinds: &[u8],
@@ -477,7 +477,14 @@ pub fn slider_pext_moves_batch(
     batch(&PextMoves { table }, kinds, squares, blockers, numbers, moves)
 }
 
-// The rays of all blocks are listed once for a batch, in place of a call for each query.
+// The rays of all blocks, listed once for a batch, in place of a call for each query.
+fn all_rays() -> [u64; 128]
+    ensures { result ≡ shown 128 (λ (b : ℕ). rays (kind_of b) (square_of b)) }
+{
+    array::from_fn(rays::rays_at)
+}
+
+// A look-up by a query's own record, with its rays at hand; kind and square are tested all the same.
 #[derive(Clone, Copy)]
 struct MagicMoves<'a> {
     records: &'a [Record; 128],
@@ -489,7 +496,7 @@ struct MagicMoves<'a> {
 impl Asked for MagicMoves<'_> {
     ghost says = { λ asked kind s b. on_block kind s (look_up kind s b (record_in asked.records.now (block_of kind s)) asked.table.now) };
 
-    #[tactic(auto, using(crate::proofs::Batches::block_below))]
+    #[tactic(auto, using(crate::proofs::Batches::block_below, crate::proofs::Batches::by_listed))]
     fn ask(&self, kind: u8, sq: u8, blockers: u64) -> SliderAnswer {
         match rays::block(kind, sq) {
             Answer::Gives(b) => {
@@ -512,7 +519,7 @@ pub fn slider_moves_batch(
 ) -> u64
     ensures { Batch (moves_asked set.records table.now kinds.now squares.now blockers.now) (fewest (length kinds.now) (length squares.now) (length blockers.now) (length numbers.old) (length moves.old)) result numbers.old moves.old numbers.new moves.new }
 {
-    let rays = array::from_fn(|block| rays::rays_at(block));
+    let rays = all_rays();
     let asked = MagicMoves {
         records: &set.records,
         rays: &rays,
