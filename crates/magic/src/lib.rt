@@ -12,7 +12,7 @@ ghost use Rattle.refusal.specs.Paper.{said};
 ghost use Rattle.board.specs.Board.{on_block};
 ghost use Rattle.board.specs.Blocks.{kind_of, square_of};
 ghost use Rattle.magic.specs.LookUp.{slot_in, look_with, look_up};
-ghost use Rattle.magic.specs.Audit.{exact, checked, subset_says, block_says, blocks_say, audit_says};
+ghost use Rattle.magic.specs.Audit.{exact, checked, Own, subset_says, block_says, blocks_say, audit_says};
 
 use gen_magic::Record;
 use refusal::{Answer, Refusal};
@@ -20,6 +20,7 @@ use refusal::{Answer, Refusal};
 // ---- the look-up
 
 // Offset and index in 64 bits: offset + index may pass 2 to the 32.
+#[tactic(auto, unfolding(crate::specs::LookUp::slot_in))]
 fn slot_in(magic: Record, blockers: u64) -> u64
     requires { (52 ≤ magic.shift) × (magic.shift ≤ 59) }
     ensures { result ≡ slot_in magic blockers }
@@ -29,6 +30,7 @@ fn slot_in(magic: Record, blockers: u64) -> u64
 }
 
 // With the rays at hand, for a batch that lists them once: 8, then 7.
+#[tactic(auto, using(std::proofs::lemmas::Bool::Decides::nat_tests), unfolding(crate::specs::LookUp::look_with))]
 pub fn look_with(rays: u64, blockers: u64, magic: Record, table: &[u64]) -> Answer
     ensures { said result ≡ look_with rays blockers magic table.now }
 {
@@ -49,6 +51,7 @@ fn look_up(block: usize, blockers: u64, magic: Record, table: &[u64]) -> Answer
     look_with(rays::rays_at(block), blockers, magic, table)
 }
 
+#[tactic(auto, using(board::proofs::Blocks::refused_block))]
 pub fn get_moves(kind: u8, sq: u8, blockers: u64, magic: Record, table: &[u64]) -> Answer
     ensures { said result ≡ on_block kind sq (look_up kind sq blockers magic table.now) }
 {
@@ -58,6 +61,7 @@ pub fn get_moves(kind: u8, sq: u8, blockers: u64, magic: Record, table: &[u64]) 
     }
 }
 
+// The original's two names stay, each one call.
 pub fn get_rook_moves(sq: u8, blockers: u64, magic: Record, table: &[u64]) -> Answer
     ensures { said result ≡ on_block 0 sq (look_up 0 sq blockers magic table.now) }
 {
@@ -72,76 +76,70 @@ pub fn get_bishop_moves(sq: u8, blockers: u64, magic: Record, table: &[u64]) -> 
 
 // ---- the audit
 
-// What a part of the audit found.
-#[derive(Clone, Copy)]
-pub enum Check {
-    Holds,
-    Fails(Refusal),
-}
-
 // Whether mask and shift are the block's own.
+#[tactic(auto, unfolding(crate::specs::Audit::exact))]
 fn is_exact(block: usize, magic: Record) -> bool
     ensures { result ≡ exact block magic }
 {
     (magic.mask == magic_helpers::mask_at(block)) & (magic.shift == magic_helpers::shift_at(block))
 }
 
-// A refused look-up is taken apart first and passed on: the record is exact, so it is 7.
-fn check_subset(block: usize, subset: usize, magic: Record, table: &[u64]) -> Check
-    requires { (52 ≤ magic.shift) × (magic.shift ≤ 59) }
+// A refused look-up is taken apart first and passed on: the record is the block's own, so it is 7.
+#[tactic(auto, using(crate::proofs::Audits::subset_refused, crate::proofs::Audits::subset_right, crate::proofs::Audits::subset_wrong))]
+fn check_subset(
+    block: usize,
+    subset: usize,
+    magic: Record,
+    table: &[u64],
+) -> Result<(), Refusal>
+    requires { Own block magic }
     ensures { checked result ≡ subset_says block magic table.now subset }
 {
     let question = magic_helpers::subset_at(block, subset as u64);
     let Answer::Gives(found) = look_up(block, question, magic, table) else {
-        return Check::Fails(Refusal::IndexAt { block, subset });
+        return Err(Refusal::IndexAt { block, subset });
     };
     if found != magic_helpers::walk_at(block, question) {
-        return Check::Fails(Refusal::SlotAt { block, subset });
+        return Err(Refusal::SlotAt { block, subset });
     }
-    Check::Holds
+    Ok(())
 }
 
 // Mask and shift, then subsets in order.
-fn check_block(block: usize, magic: Record, table: &[u64]) -> Check
+#[tactic(auto, using(crate::proofs::Audits::exact_is, crate::proofs::Audits::block_8, crate::proofs::Audits::block_in, crate::proofs::Audits::turn_none, crate::proofs::Audits::turn_more))]
+fn check_block(block: usize, magic: Record, table: &[u64]) -> Result<(), Refusal>
     ensures { checked result ≡ block_says block magic table.now }
 {
     if !is_exact(block, magic) {
-        return Check::Fails(Refusal::RecordAt { block });
+        return Err(Refusal::RecordAt { block });
     }
-    let size = magic_helpers::size_at(block);
-    let mut subset: usize = 0;
-    while subset < size {
-        match check_subset(block, subset, magic, table) {
-            Check::Holds => subset += 1,
-            Check::Fails(refusal) => return Check::Fails(refusal),
-        }
+    for subset in 0..magic_helpers::size_at(block) {
+        check_subset(block, subset, magic, table)?;
     }
-    Check::Holds
+    Ok(())
 }
 
 // The first failing block decides.
-fn check_blocks(records: [Record; 128], table: &[u64]) -> Check
+#[tactic(auto, using(crate::proofs::Audits::turn_none, crate::proofs::Audits::turn_more), unfolding(crate::specs::Audit::blocks_say))]
+fn check_blocks(records: [Record; 128], table: &[u64]) -> Result<(), Refusal>
     ensures { checked result ≡ blocks_say records table.now }
 {
-    let mut block: usize = 0;
-    while block < 128 {
-        match check_block(block, records[block], table) {
-            Check::Holds => block += 1,
-            Check::Fails(refusal) => return Check::Fails(refusal),
-        }
+    for (block, magic) in records.iter().enumerate() {
+        check_block(block, *magic, table)?;
     }
-    Check::Holds
+    Ok(())
 }
 
 // On acceptance the reach: the end of block 127.
+#[tactic(auto, using(board::proofs::Sizes::block_size_high), unfolding(crate::specs::Audit::audit_says, crate::specs::Audit::reach_of))]
 pub fn audit(records: [Record; 128], table: &[u64]) -> Answer
     ensures { said result ≡ audit_says records table.now }
 {
     match check_blocks(records, table) {
-        Check::Holds => {
+        Ok(()) => {
             let last = records[127];
             Answer::Gives(last.offset as u64 + magic_helpers::size_at(127) as u64)
         }
-        Check::Fails(refusal) => Answer::Refuses(refusal),
+        Err(refusal) => Answer::Refuses(refusal),
     }
 }

@@ -24,6 +24,10 @@ pub record Batch (asked : ℕ → Said ℕ) (n r : ℕ) (numbers moves numbers' 
   pub numbers_now : numbers' ≡ over n (λ i. (answer_of (asked i)).number) numbers
   pub moves_now : moves' ≡ over n (λ i. (answer_of (asked i)).value) moves
 
+-- query i of three lists, of what is said of a kind, a square and blockers
+abbrev pub asked_by : (ℕ → ℕ → ℕ → Said ℕ) → List ℕ → List ℕ → List ℕ → ℕ → Said ℕ
+asked_by says kinds squares blockers i = says (slots kinds i) (slots squares i) (slots blockers i)
+
 abbrev pub walk_asked : List ℕ → List ℕ → List ℕ → ℕ → Said ℕ
 walk_asked kinds squares blockers i =
     on_block (slots kinds i) (slots squares i) (gives (attack (slots kinds i) (slots squares i) (slots blockers i)))

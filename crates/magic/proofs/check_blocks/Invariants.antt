@@ -1,5 +1,4 @@
 -- `magic::check_blocks` meets its contract: the blocks before this one hold.
-use Prim.Native.Nat.{◌-◌, ◌≤◌}
 use mathlib.Core.Path.{◌≡◌}
 use Rattle.refusal.specs.Paper.{gives}
 use Rattle.gen_magic.specs.Builds.{record_in}
@@ -7,7 +6,4 @@ use Rattle.magic.specs.Audit.{in_turn, block_says}
 use Rattle.magic.proofs.check_blocks.Given as goal
 
 abbrev pub invariant-loop-block : goal.invariant-loop-block
-invariant-loop-block l = (l.block ≤ 128) × (in_turn l.block (λ b. block_says b (record_in l.records b) l.table) ≡ gives tt)
-
-abbrev pub decreases-loop-block : goal.decreases-loop-block
-decreases-loop-block l = 128 - l.block
+invariant-loop-block l = in_turn l.block (λ b. block_says b (record_in l.fn.records b) l.table) ≡ gives tt

@@ -11,8 +11,3 @@ returns-in-Gives c = let found = c in
     c.look_up.ensures
     ∙ by_block a.kind a.sq _ (λ k s. look_up k s a.blockers a.magic a.table.now) c.in-Gives.ensures
 
-pub returns-in-Refuses : goal.returns-in-Refuses
-returns-in-Refuses c = let found = c in
-    let a = found.args in
-    refused_block a.kind a.sq _ _ (block_of a.kind a.sq) (look_up a.kind a.sq a.blockers a.magic a.table.now)
-    c.in-Refuses.ensures

@@ -14,6 +14,3 @@ overflow_add-result c = let m = c.wrapping_mul-product in
     let h = shr_within 64 12 c.args.magic.shift m.result small (omega (arith, c.requires.0)) in
     omega (arith, h)
 
-pub returns : goal.returns
-unfolding slot_in
-returns c = ap (λ (p : ℕ). c.args.magic.offset + p / 2 ^ c.args.magic.shift) c.wrapping_mul-product.ensures

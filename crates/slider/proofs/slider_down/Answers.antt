@@ -1,7 +1,0 @@
--- `slider::slider_down` meets its contract.
-use mathlib.Core.Path.{ap, ◌∙◌}
-use Rattle.slider.specs.Flat.{step_of}
-use Rattle.slider.proofs.slider_down.Goals as goal
-
-pub returns : goal.returns
-returns c = c.step.ensures ∙ ap step_of c.down.ensures

@@ -1,7 +1,0 @@
--- `slider::slider_square` meets its contract.
-use mathlib.Core.Path.{ap, ◌∙◌}
-use Rattle.slider.specs.Flat.{answer_of}
-use Rattle.slider.proofs.slider_square.Goals as goal
-
-pub returns : goal.returns
-returns c = c.answer.ensures ∙ ap answer_of c.from_str.ensures
