@@ -67,9 +67,6 @@ right_length k s n b c e = go (ltb 1 k) (ltb 63 s) (eqb n 107648) refl e
 pub part_ends : (b : ℕ) → offset_of (kind_of b) (square_of b) + size_of (kind_of b) (square_of b) ≤ 107648
 part_ends b = offset_within (kind_of b) (square_of b) (kind_lt b) (square_lt b)
 
-pub block_ends : (b offset size : ℕ) → offset ≡ offset_of (kind_of b) (square_of b) → size ≡ size_of (kind_of b) (square_of b) → offset + size ≤ 107648
-block_ends b offset size eo es = omega (arith, part_ends b)
-
 -- a block's part is as long as the block; so "the empty part, which no block is"
 pub part_long : (k s : ℕ) (table : List ℕ) → k < 2 → s < 64 → length table ≡ 107648 → length (part_of k s table) ≡ size_of k s
 unfolding part_of
@@ -79,12 +76,9 @@ pub part_some : (k s : ℕ) (table : List ℕ) → k < 2 → s < 64 → length t
 part_some k s table hk hs e q = let l : length (part_of k s table) ≡ 0 = ap length q in omega (arith, part_long k s table hk hs e, size_low k s hk hs)
 
 -- the look-up in the part is the look-up in the whole
-pub look_part : (b blockers offset size k : ℕ) (table : List ℕ) → offset ≡ offset_of (kind_of b) (square_of b) → size ≡ size_of (kind_of b) (square_of b) → k ≡ size → pdep (get_or (take k (drop offset table)) (pext blockers (mask (kind_of b) (square_of b))) 0) (rays (kind_of b) (square_of b)) ≡ look_up (kind_of b) (square_of b) blockers table
-unfolding look_up
-look_part b blockers offset size k table eo es ek =
+pub look_part : (b blockers : ℕ) (table part : List ℕ) → part ≡ part_of (kind_of b) (square_of b) table → pdep (get_or part (pext blockers (mask (kind_of b) (square_of b))) 0) (rays (kind_of b) (square_of b)) ≡ look_up (kind_of b) (square_of b) blockers table
+unfolding look_up part_of
+look_part b blockers table part e =
     ap (λ (x : ℕ). pdep x (rays (kind_of b) (square_of b)))
-    (get_or_part offset k (pext blockers (mask (kind_of b) (square_of b))) table 0 (low (ek ∙ es) (index_lt (kind_of b) (square_of b) blockers))
-    ∙ ap (λ (o : ℕ). get_or table (o + pext blockers (mask (kind_of b) (square_of b))) 0) eo)
-  where
-    low : {i m : ℕ} → k ≡ m → i < m → i < k
-    low e l = omega arith
+    (ap (λ (l : List ℕ). get_or l (pext blockers (mask (kind_of b) (square_of b))) 0) e
+    ∙ get_or_part (offset_of (kind_of b) (square_of b)) (size_of (kind_of b) (square_of b)) (pext blockers (mask (kind_of b) (square_of b))) table 0 (index_lt (kind_of b) (square_of b) blockers))

@@ -2,4 +2,3 @@ pub mod Sums
 pub mod Entries
 pub mod Filling
 pub mod InTable
-pub mod Unique

@@ -1,12 +1,11 @@
 -- PEXT tables. 01, "Look-ups and audit": "PEXT: blocks in the order rook 0, bishop 0, rook 1, bishop 1, ... as in gen_all_bmis; entry i is the walk of subset i extracted through the rays, 16 bits; the look-up deposits it again, for any 107,648 entries."
 use Rattle.std.specs.Prelude.{ℕ, zero, suc, ◌+◌, ◌*◌, ◌/◌, ◌%◌, Bool, true, false, not, List, [], ◌++◌, eqb, length, get_or, take, drop}
-use Rattle.refusal.specs.Paper.{Said, gives, refuses, refused, refuse_if}
+use Rattle.refusal.specs.Paper.{Said, gives, refuses, refuse_if}
 use Rattle.bits.specs.Intel.{pext, pdep}
 use Rattle.bits.specs.Shown.{shown, sum}
 use Rattle.board.specs.Board.{rays, mask, attack, on_block}
 use Rattle.board.specs.Blocks.{block_of, size_of, subset}
-use Rattle.bmis.specs.declared.Place.{Place}
-use Rattle.bmis.specs.declared.Place.TheVariants.{At, Refused}
+use Rattle.bmis.specs.declared.Extent.{Extent}
 
 -- the p-th block of the order (p counted from 0): rook and bishop in turn, square by square
 unfoldable pub block_at : ℕ → ℕ
@@ -57,13 +56,5 @@ given (gives l) = l
 given (refuses n l) = []
 
 -- "and a second call on the same arguments gives the number, or the block's offset and size"
-pub record Extent : Type 0 where
-  pub offset : ℕ
-  pub size : ℕ
-
 abbrev pub extent_of : ℕ → ℕ → Extent
 extent_of kind s = record { offset = offset_of kind s; size = size_of kind s }
-
-abbrev pub placed : Place → Said Extent
-placed (At offset size) = gives (record { offset = offset; size = size })
-placed (Refused r) = refused r

@@ -7,26 +7,31 @@
 // Adds: refusals 1, 2 and 9; a look-up in any entries; the part and its place.
 #![tactic(auto)]
 
-ghost use Rattle.std.specs.Prelude.{◌≡◌, get_or, length};
+ghost use Rattle.std.specs.Prelude.{◌≡◌, ◌+◌, ◌≤◌, get_or, length};
 ghost use Rattle.refusal.specs.Paper.{said, gives};
 ghost use Rattle.bits.specs.Intel.{pext, pdep};
 ghost use Rattle.bits.specs.Shown.{shown};
 ghost use Rattle.board.specs.Board.{rays, mask};
 ghost use Rattle.board.specs.Blocks.{block_of, kind_of, square_of, size_of};
-ghost use Rattle.bmis.specs.Bmis.{block_at, offset_of, entry, entries_to, of_length, in_table, filled, look_up, given, part_of, extent_of, placed};
+ghost use Rattle.bmis.specs.Bmis.{block_at, offset_of, entry, entries_to, of_length, in_table, filled, look_up, given, part_of, extent_of};
 
-use refusal::{Answer, Refusal};
+use rays::Kind;
+use refusal::Refusal;
+
+// How many entries a table has.
+const ENTRIES: usize = 107_648;
 
 // Where a square's block lies in the table.
-#[derive(Clone, Copy)]
-pub enum Place {
-    At { offset: usize, size: usize },
-    Refused(Refusal),
+#[derive(Clone, Copy, Debug, PartialEq, Eq)]
+pub struct Extent {
+    pub offset: usize,
+    pub size: usize,
 }
 
-// ---- offsets
+// ---- blocks in the table
 
 // Block number p in the order rook 0, bishop 0, rook 1, bishop 1, ..
+#[tactic(auto, using(crate::proofs::Sums::block_is))]
 fn block_at(p: usize) -> usize
     ensures { result ≡ block_at p }
 {
@@ -37,8 +42,30 @@ fn block_at(p: usize) -> usize
 pub fn offset_at(block: usize) -> usize
     ensures { result ≡ offset_of (kind_of block) (square_of block) }
 {
-    let kind = 1 - block / 64 % 2;
-    tables::start_listed(2 * (block % 64) + kind)
+    match rays::kind_at(block) {
+        Kind::Rook => tables::start_listed(2 * (block % 64)),
+        Kind::Bishop => tables::start_listed(2 * (block % 64) + 1),
+    }
+}
+
+#[tactic(auto, using(crate::proofs::InTable::part_ends))]
+fn extent_at(block: usize) -> Extent
+    ensures value { result ≡ extent_of (kind_of block) (square_of block) }
+    ensures within { result.offset + result.size ≤ 107648 }
+{
+    Extent {
+        offset: offset_at(block),
+        size: magic_helpers::size_at(block),
+    }
+}
+
+// The block as a part of a table.
+fn part_at(block: usize, table: &[u16]) -> &[u16]
+    requires { length table.now ≡ 107648 }
+    ensures { result.now ≡ part_of (kind_of block) (square_of block) table.now }
+{
+    let Extent { offset, size } = extent_at(block);
+    &table[offset..offset + size]
 }
 
 // ---- the fill
@@ -58,11 +85,8 @@ fn entry_at(block: usize, i: usize) -> u16
 fn generate_bmis(block: usize, part: &mut [u16])
     ensures { part.new ≡ shown (length part.old) (entry (kind_of block) (square_of block)) }
 {
-    let mut i: usize = 0;
-    while i < part.len() {
-        let packed = entry_at(block, i);
-        part[i] = packed;
-        i += 1;
+    for (i, packed) in part.iter_mut().enumerate() {
+        *packed = entry_at(block, i);
     }
 }
 
@@ -72,24 +96,22 @@ fn fill(table: &mut [u16])
     ensures { table.new ≡ entries_to 128 }
 {
     let mut at: usize = 0;
-    let mut p: usize = 0;
-    while p < 128 {
+    for p in 0..128 {
         let block = block_at(p);
         let end = at + magic_helpers::size_at(block);
         generate_bmis(block, &mut table[at..end]);
         at = end;
-        p += 1;
     }
 }
 
-pub fn gen_all_bmis(table: &mut [u16]) -> Answer
+pub fn gen_all_bmis(table: &mut [u16]) -> Result<usize, Refusal>
     ensures { (said result ≡ of_length (length table.old) (gives 107648)) × (table.new ≡ filled table.old) }
 {
-    if table.len() != 107648 {
-        return Answer::Refuses(Refusal::Length);
+    if table.len() != ENTRIES {
+        return Err(Refusal::Length);
     }
     fill(table);
-    Answer::Gives(107648)
+    Ok(ENTRIES)
 }
 
 // ---- the look-up
@@ -107,18 +129,14 @@ fn look_in(block: usize, part: &[u16], blockers: u64) -> u64
 }
 
 // The block of a kind and a square, in a table of the right length: 1, 2, then 9.
-fn table_block(kind: u8, sq: u8, entries: usize) -> Answer
+fn table_block(kind: u8, sq: u8, entries: usize) -> Result<usize, Refusal>
     ensures { said result ≡ in_table kind sq entries (gives (block_of kind sq)) }
 {
-    match rays::block(kind, sq) {
-        Answer::Gives(b) => {
-            if entries != 107648 {
-                return Answer::Refuses(Refusal::Length);
-            }
-            Answer::Gives(b)
-        }
-        Answer::Refuses(refusal) => Answer::Refuses(refusal),
+    let block = rays::block(kind, sq)?;
+    if entries != ENTRIES {
+        return Err(Refusal::Length);
     }
+    Ok(block)
 }
 
 // A square's block is handed on as a part that starts at its offset.
@@ -126,27 +144,24 @@ fn look_at(block: usize, blockers: u64, table: &[u16]) -> u64
     requires { length table.now ≡ 107648 }
     ensures { result ≡ look_up (kind_of block) (square_of block) blockers table.now }
 {
-    let offset = offset_at(block);
-    let end = offset + magic_helpers::size_at(block);
-    look_in(block, &table[offset..end], blockers)
+    look_in(block, part_at(block, table), blockers)
 }
 
-pub fn get_moves_bmi(kind: u8, sq: u8, blockers: u64, table: &[u16]) -> Answer
+pub fn get_moves_bmi(kind: u8, sq: u8, blockers: u64, table: &[u16]) -> Result<u64, Refusal>
     ensures { said result ≡ in_table kind sq (length table.now) (gives (look_up kind sq blockers table.now)) }
 {
-    match table_block(kind, sq, table.len()) {
-        Answer::Gives(b) => Answer::Gives(look_at(b as usize, blockers, table)),
-        Answer::Refuses(refusal) => Answer::Refuses(refusal),
-    }
+    let block = table_block(kind, sq, table.len())?;
+    Ok(look_at(block, blockers, table))
 }
 
-pub fn get_rook_moves_bmi(sq: u8, blockers: u64, table: &[u16]) -> Answer
+// The original's two names stay, each one call.
+pub fn get_rook_moves_bmi(sq: u8, blockers: u64, table: &[u16]) -> Result<u64, Refusal>
     ensures { said result ≡ in_table 0 sq (length table.now) (gives (look_up 0 sq blockers table.now)) }
 {
     get_moves_bmi(0, sq, blockers, table)
 }
 
-pub fn get_bishop_moves_bmi(sq: u8, blockers: u64, table: &[u16]) -> Answer
+pub fn get_bishop_moves_bmi(sq: u8, blockers: u64, table: &[u16]) -> Result<u64, Refusal>
     ensures { said result ≡ in_table 1 sq (length table.now) (gives (look_up 1 sq blockers table.now)) }
 {
     get_moves_bmi(1, sq, blockers, table)
@@ -159,27 +174,14 @@ pub fn bmi_part(kind: u8, sq: u8, table: &[u16]) -> &[u16]
     ensures { result.now ≡ given (in_table kind sq (length table.now) (gives (part_of kind sq table.now))) }
 {
     match table_block(kind, sq, table.len()) {
-        Answer::Gives(b) => {
-            let block = b as usize;
-            let offset = offset_at(block);
-            let end = offset + magic_helpers::size_at(block);
-            &table[offset..end]
-        }
-        Answer::Refuses(_) => &table[0..0],
+        Ok(block) => part_at(block, table),
+        Err(_) => &table[0..0],
     }
 }
 
 // A second call on the same arguments: the number, or the block's offset and size.
-pub fn bmi_place(kind: u8, sq: u8, table: &[u16]) -> Place
-    ensures { placed result ≡ in_table kind sq (length table.now) (gives (extent_of kind sq)) }
+pub fn bmi_place(kind: u8, sq: u8, table: &[u16]) -> Result<Extent, Refusal>
+    ensures { said result ≡ in_table kind sq (length table.now) (gives (extent_of kind sq)) }
 {
-    match table_block(kind, sq, table.len()) {
-        Answer::Gives(b) => {
-            let block = b as usize;
-            let offset = offset_at(block);
-            let size = magic_helpers::size_at(block);
-            Place::At { offset, size }
-        }
-        Answer::Refuses(refusal) => Place::Refused(refusal),
-    }
+    Ok(extent_at(table_block(kind, sq, table.len())?))
 }

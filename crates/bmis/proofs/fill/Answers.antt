@@ -15,7 +15,7 @@ use Rattle.bmis.proofs.fill.Goals as goal
 
 pub loop-p-init : goal.loop-p-init
 unfolding sum entries_to
-loop-p-init c = (omega arith, refl, c.requires, refl)
+loop-p-init c = record { at_is = refl; long = c.requires; first = refl }
 
 -- the block's size, and that it ends within the table
 size : (p block n : ℕ) → p < 128 → block ≡ block_at p → n ≡ size_of (kind_of block) (square_of block) → n ≡ size_at p
@@ -26,15 +26,15 @@ within p at block n h ea eb en = omega (arith, size p block n h eb en, ends_with
 
 pub overflow_add-end : goal.overflow_add-end
 overflow_add-end c =
-    omega (arith, within c.loop-p.p _ _ _ (omega arith) c.loop-p.invariant.1 c.block_at-block.ensures c.size_at.ensures)
+    omega (arith, within c.loop-p.p _ _ _ (omega arith) c.loop-p.invariant.at_is c.block_at-block.ensures c.size_at.ensures)
 
 pub offset_bounds-table-at : goal.offset_bounds-table-at
 offset_bounds-table-at c =
-    omega (arith, within c.loop-p.p _ _ _ (omega arith) c.loop-p.invariant.1 c.block_at-block.ensures c.size_at.ensures)
+    omega (arith, within c.loop-p.p _ _ _ (omega arith) c.loop-p.invariant.at_is c.block_at-block.ensures c.size_at.ensures)
 
 pub slice_bounds-generate_bmis-end : goal.slice_bounds-generate_bmis-end
 slice_bounds-generate_bmis-end c =
-    omega (arith, within c.loop-p.p _ _ _ (omega arith) c.loop-p.invariant.1 c.block_at-block.ensures c.size_at.ensures, c.loop-p.invariant.2)
+    omega (arith, within c.loop-p.p _ _ _ (omega arith) c.loop-p.invariant.at_is c.block_at-block.ensures c.size_at.ensures, c.loop-p.invariant.long)
 
 pub loop-p-preserved : goal.loop-p-preserved
 loop-p-preserved c =
@@ -44,16 +44,16 @@ loop-p-preserved c =
     let low : l.p < 128 = omega arith in
     let k : l.at + n - l.at ≡ n = omega arith in
     let es = size l.p _ _ low c.block_at-block.ensures c.size_at.ensures in
-    let w : l.at + n ≤ length l.table = omega (arith, within l.p _ _ _ low l.invariant.1 c.block_at-block.ensures c.size_at.ensures, l.invariant.2) in (
-      omega arith,
-      ap₂ (λ (x y : ℕ). x + y) l.invariant.1 es ∙ sym (sum_more l.p size_at),
-      same_len_mid l.at (l.at + n - l.at) l.table part c.generate_bmis.auto.part ∙ l.invariant.2,
-      filled_turn l.p l.at n c.block_at-block.result (l.at + n - l.at) l.table part low k es c.block_at-block.ensures w l.invariant.3 c.generate_bmis.ensures,
-    )
+    let w : l.at + n ≤ length l.table = omega (arith, within l.p _ _ _ low l.invariant.at_is c.block_at-block.ensures c.size_at.ensures, l.invariant.long) in
+    record {
+      at_is = ap₂ (λ (x y : ℕ). x + y) l.invariant.at_is es ∙ sym (sum_more l.p size_at);
+      long = same_len_mid l.at (l.at + n - l.at) l.table part c.generate_bmis.auto.part ∙ l.invariant.long;
+      first = filled_turn l.p l.at n c.block_at-block.result (l.at + n - l.at) l.table part low k es c.block_at-block.ensures w l.invariant.first c.generate_bmis.ensures;
+    }
 
 pub returns : goal.returns
 returns c =
     let l = c.loop-p in
     let e : l.p ≡ 128 = omega arith in
-    sym (take_all l.at l.table (omega (arith, l.invariant.1, l.invariant.2, ap (λ (n : ℕ). sum n size_at) e, all_sizes)))
-    ∙ l.invariant.3 ∙ ap entries_to e
+    sym (take_all l.at l.table (omega (arith, l.invariant.at_is, l.invariant.long, ap (λ (n : ℕ). sum n size_at) e, all_sizes)))
+    ∙ l.invariant.first ∙ ap entries_to e

@@ -1,15 +1,9 @@
 -- `bmis::generate_bmis` meets its contract: before turn i, the part begins with the first i entries.
-use Prim.Native.Nat.{◌-◌, ◌≤◌}
-use mathlib.Core.Path.{◌≡◌}
-use lib.ListN.{length, take}
+use Rattle.std.proofs.Common.{◌≡◌, take}
 use Rattle.bits.specs.Shown.{shown}
 use Rattle.board.specs.Blocks.{kind_of, square_of}
 use Rattle.bmis.specs.Bmis.{entry}
 use Rattle.bmis.proofs.generate_bmis.Given as goal
 
 abbrev pub invariant-loop-i : goal.invariant-loop-i
-invariant-loop-i l =
-    (l.i ≤ length l.initial.part) × (length l.part ≡ length l.initial.part) × (take l.i l.part ≡ shown l.i (entry (kind_of l.block) (square_of l.block)))
-
-abbrev pub decreases-loop-i : goal.decreases-loop-i
-decreases-loop-i l = length l.initial.part - l.i
+invariant-loop-i l = take l.i l.part ≡ shown l.i (entry (kind_of l.block) (square_of l.block))
