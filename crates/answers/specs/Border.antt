@@ -1,20 +1,19 @@
 -- Answers of the batches of `slider`, and of `lines`.
-use Rattle.std.specs.Prelude.{ℕ, List, [], ◌∷◌, ◌++◌, replicate}
+use Rattle.std.specs.Prelude.{ℕ, List, [], ◌∷◌, ◌++◌, replicate, Option, Some, None}
 use Rattle.slider.specs.Flat.{answer_of}
 use Rattle.slider.specs.Batch.{fewest, over, walk_asked, pext_asked, moves_asked}
 use Rattle.gen_magic.specs.declared.Record.{Record}
 use Rattle.gen_magic.specs.Builds.{no_record}
 use Rattle.lines.specs.declared.Query.{Query}
-use Rattle.lines.specs.declared.Query.TheVariants.{Walk, Unreadable}
 use Rattle.lines.specs.declared.Fed.{Fed}
 use Rattle.lines.specs.Line.{query_of}
 use Rattle.lines.specs.Stream.{head_line}
 use Rattle.lines.specs.Calls.{answered, fresh, fed_of, written, ending}
 use Rattle.answers.specs.Tried.{Tried, ◌is◌not◌, one}
 
-abbrev pub query : Query → List ℕ
-query (Walk kind square blockers) = kind ∷ square ∷ blockers ∷ []
-query Unreadable = []
+abbrev pub query : Option Query → List ℕ
+query (Some q) = q.kind ∷ q.square ∷ q.blockers ∷ []
+query None = []
 
 -- bytes of a line that has begun, bytes written, bytes taken
 abbrev pub fed : Fed → List ℕ

@@ -1,5 +1,5 @@
 -- Answers of `refusal`, `bits`, `bitboard`, `square`, `splitmix` and `hex`.
-use Rattle.std.specs.Prelude.{ℕ, ◌*◌, ◌/◌, ◌%◌, ◌^◌, List, [], ◌∷◌, ◌++◌, replicate}
+use Rattle.std.specs.Prelude.{ℕ, ◌*◌, ◌/◌, ◌%◌, ◌^◌, List, [], ◌∷◌, ◌++◌, replicate, option_to_list}
 use Rattle.std.proofs.Math.Option.{Option}
 use Rattle.std.specs.Int.Count.{ones}
 use Rattle.refusal.specs.declared.Refusal.TheVariants.{Spent, IndexAt}
@@ -11,8 +11,6 @@ use Rattle.bitboard.specs.declared.Found.TheVariants.{At, End}
 use Rattle.bitboard.specs.Bitboard.{in_both, in_either, in_one, in_none, square_set, rank_file_set, least_square, next_of}
 use Rattle.splitmix.specs.declared.Generator.{Generator}
 use Rattle.splitmix.specs.SplitMix.{candidate_of, moved, drawn, candidate}
-use Rattle.hex_digits.specs.declared.Value.{Value}
-use Rattle.hex_digits.specs.declared.Value.TheVariants.{Is, Not}
 use Rattle.hex_digits.specs.Hex.{read_word, write_word}
 use Rattle.slider.specs.Flat.{step_of, name_of}
 use Rattle.answers.specs.Tried.{Tried, ◌is◌not◌, one, said}
@@ -31,10 +29,6 @@ found End = []
 
 abbrev pub zero_state : Generator
 zero_state = record { state = 0 }
-
-abbrev pub value : Value → List ℕ
-value (Is n) = n ∷ []
-value Not = []
 
 abbrev pub table : List Tried
 table =
@@ -126,10 +120,10 @@ table =
     ∷ (one (candidate 0 1) is one 0x1009880850080088 not one 0x180800080144)
     ∷ (one (candidate 0 1) is one 0x1009880850080088 not one 0x200080800094504)
     -- read: upper case is not read, lower case is, 15 digits are, the last digit first
-    ∷ (value (read_word (replicate 15 48 ++ (65 ∷ []))) is one 10 not [])
-    ∷ (value (read_word (replicate 15 48 ++ (97 ∷ []))) is [] not one 10)
-    ∷ (value (read_word (replicate 15 48)) is [] not one 0)
-    ∷ (value (read_word (48 ∷ 49 ∷ 50 ∷ 51 ∷ 52 ∷ 53 ∷ 54 ∷ 55 ∷ 56 ∷ 57 ∷ 65 ∷ 66 ∷ 67 ∷ 68 ∷ 69 ∷ 70 ∷ [])) is one 0x0123456789ABCDEF not one 0xFEDCBA9876543210)
+    ∷ (option_to_list (read_word (replicate 15 48 ++ (65 ∷ []))) is one 10 not [])
+    ∷ (option_to_list (read_word (replicate 15 48 ++ (97 ∷ []))) is [] not one 10)
+    ∷ (option_to_list (read_word (replicate 15 48)) is [] not one 0)
+    ∷ (option_to_list (read_word (48 ∷ 49 ∷ 50 ∷ 51 ∷ 52 ∷ 53 ∷ 54 ∷ 55 ∷ 56 ∷ 57 ∷ 65 ∷ 66 ∷ 67 ∷ 68 ∷ 69 ∷ 70 ∷ [])) is one 0x0123456789ABCDEF not one 0xFEDCBA9876543210)
     -- write: the last digit first, lower case, digits in a buffer that is too short
     ∷ (write_word 0x0123456789ABCDEF (replicate 16 0) is (48 ∷ 49 ∷ 50 ∷ 51 ∷ 52 ∷ 53 ∷ 54 ∷ 55 ∷ 56 ∷ 57 ∷ 65 ∷ 66 ∷ 67 ∷ 68 ∷ 69 ∷ 70 ∷ []) not (70 ∷ 69 ∷ 68 ∷ 67 ∷ 66 ∷ 65 ∷ 57 ∷ 56 ∷ 55 ∷ 54 ∷ 53 ∷ 52 ∷ 51 ∷ 50 ∷ 49 ∷ 48 ∷ []))
     ∷ (write_word 10 (replicate 16 0) is (replicate 15 48 ++ (65 ∷ [])) not (replicate 15 48 ++ (97 ∷ [])))

@@ -8,7 +8,6 @@
 // Adds: all of it.
 #![tactic(auto)]
 
-use lines::Query;
 use refusal::Answer;
 use square::Name;
 use std::io;
@@ -49,13 +48,8 @@ fn blocks<W: Write>(out: &mut W, piece: u8, kind: u8) -> io::Result<()> {
 // A line of the query program's form, and the walk that it asks for.
 fn walk<W: Write>(out: &mut W, line: &[u8]) -> io::Result<()> {
     out.write_all(line)?;
-    if let Query::Walk {
-        kind,
-        square,
-        blockers,
-    } = lines::read_line(line)
-    {
-        set(out, magic_helpers::walk(kind, square, blockers))?;
+    if let Some(query) = lines::read_line(line) {
+        set(out, magic_helpers::walk(query.kind, query.square, query.blockers))?;
     }
     end(out)
 }
