@@ -4,7 +4,7 @@
 // free place, the writing of a block, the one loop over the blocks.
 // Ports: src/gen_tables/magic.rs (lines 47 to 135): generate_magic, which became `settle` (place and multiplier) and
 // `write`, and gen_all_magic. The static tables became lent slices, the random draws a source of choices.
-// Adds: the attempt budget, the room, the build from lent multipliers, the outcome with its refusal.
+// Adds: the attempt budget, the room, the build from lent multipliers, the refusals.
 #![tactic(auto)]
 
 ghost use Rattle.std.specs.Prelude.{◌≡◌, ℕ, ◌+◌, ◌^◌, ◌≤◌, ◌<◌, max, get_or, length, replicate, IfOk};
@@ -29,7 +29,8 @@ pub struct Record {
     pub shift: u8,
 }
 
-// What a build hands back of all its blocks; one that is refused hands back the refusal alone, with its block.
+// What a build hands back, in the two lists of the C interface; one that is refused hands back the refusal alone, with its
+// block.
 #[derive(Drop)]
 pub struct Build {
     pub records: [Record; 128],
@@ -213,7 +214,7 @@ fn gen_from(source: Source, table: &mut [u64], marks: &mut [u64]) -> Result<Buil
     clear(table, marks);
     let built = gen_blocks(source, table, marks);
     if built.is_err() {
-        clear(table, marks);
+        clear(table, marks)
     }
     built
 }
