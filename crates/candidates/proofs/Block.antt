@@ -1,7 +1,7 @@
 -- A block's pairs, by their number; its shift and its slots.
 -- Assumes nothing.
 use Rattle.std.proofs.Common.{◌≡◌, ℕ, ◌*◌, ◌/◌, ◌%◌, ◌^◌, ◌<◌, ◌≤◌, Bool, false, not, ◌&&◌, ltb, List, length, get_or, take, ap, sym, ◌∙◌, arith}
-use Rattle.std.proofs.lemmas.List.{length-take-le, get_or-take}
+use Rattle.std.proofs.lemmas.List.{length-take, length-take-le, get_or-take}
 use borrow.Author.Tests.{lt-ltb, le-ltb}
 use lib.Count.{ones}
 use lib.Pow.{pow_pos}
@@ -25,9 +25,26 @@ module _ (b : ℕ) (pairs : List Pair) (e : pairs ≡ pairs_of b) where
   unfolding pairs_of
   pairs_many = ap length e ∙ length_shown (real.size b) (pair_of b)
 
-  pub pair_is : (i : ℕ) (d : Pair) → i < real.size b → get_or pairs i d ≡ pair_of b i
+  pub pair_is : (i : ℕ) (d : Pair) → i < length pairs → get_or pairs i d ≡ pair_of b i
   unfolding pairs_of
-  pair_is i d h = ap (λ (l : List Pair). get_or l i d) e ∙ get_or_shown (real.size b) i (pair_of b) d h
+  pair_is i d h = ap (λ (l : List Pair). get_or l i d) e ∙ get_or_shown (real.size b) i (pair_of b) d (omega (arith, pairs_many))
+
+  -- the same of the first n
+  pub front_is : (n i : ℕ) (d : Pair) → i < length (take n pairs) → get_or (take n pairs) i d ≡ pair_of b i
+  front_is n i d h =
+      get_or-take n pairs i d (omega (arith, length-take n pairs)) ∙ pair_is i d (omega (arith, length-take n pairs))
+
+-- the slot and the walk of a pair
+module _ (b i : ℕ) (p : Pair) (e : p ≡ pair_of b i) where
+  pub slot_of_pair : (m at : ℕ) → at ≡ magic_index (kind_of b) (square_of b) m p.question → at ≡ real.index b m i
+  slot_of_pair m at h = h ∙ ap (λ (q : Pair). magic_index (kind_of b) (square_of b) m q.question) e
+
+  pub walk_of_pair : p.answer ≡ real.walk b i
+  walk_of_pair = ap (λ (q : Pair). q.answer) e
+
+-- how many the first n of a list are
+pub front_many : (n : ℕ) (l : List Pair) → n ≤ length l → n ≡ length (take n l)
+front_many n l h = sym (length-take-le n l h)
 
 -- the pairs at the front of a longer list
 pub pairs_front : (b size : ℕ) (l : List Pair) (d : Pair) → size ≡ real.size b → size ≤ length l → ((i : ℕ) → i < size → get_or l i d ≡ pair_of b i) → take size l ≡ pairs_of b

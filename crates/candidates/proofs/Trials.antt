@@ -71,10 +71,6 @@ module _ (slot value : ℕ → ℕ) where
             agree_fails size slot value h.by n (omega (arith, h.low)) l h.at
             (λ q. differs (ap (λ (x : ℕ). get_or trial x 0) (sym h.at) ∙ f.reached h.by h.low ∙ q))
 
-    -- what is to be wiped
-    pub filled_rest : Rest slot 0 n trial
-    filled_rest = record { long = f.long; free = λ j m. f.others j (λ i l. m i (omega arith) l) }
-
   -- ---- one turn, as `enter` tells it: r is whether v went in at `at`
 
   module _ (n at v : ℕ) (r : Bool) (trial left : List ℕ) (ea : at ≡ slot n) (ev : v ≡ value n) (er : r ≡ (eqb (get_or trial at 0) 0 || eqb (get_or trial at 0) v)) (el : left ≡ cond r (set trial at v) trial) (f : Filled slot value n trial) where
@@ -86,9 +82,6 @@ module _ (slot value : ℕ → ℕ) where
         go : (c : Bool) → eqb (get_or trial at 0) 0 ≡ c → (c || eqb (get_or trial at 0) v) ≡ true → (get_or trial (slot n) 0 ≡ 0) ⊎ (get_or trial (slot n) 0 ≡ value n)
         go true q h = inl (ap (λ (x : ℕ). get_or trial x 0) (sym ea) ∙ eqb-true (get_or trial at 0) 0 q)
         go false q h = inr (ap (λ (x : ℕ). get_or trial x 0) (sym ea) ∙ eqb-true (get_or trial at 0) v h ∙ ev)
-
-    pub stayed_out : r ≡ false → Filled slot value n left
-    stayed_out t = subst (Filled slot value n) (sym (el ∙ ap (λ (c : Bool). cond c (set trial at v) trial) t)) f
 
     pub turn_clashes : r ≡ false → (size : ℕ) → n < size → agree size slot value ≡ false
     turn_clashes t size l = go (eqb (get_or trial at 0) 0) refl (sym er ∙ t)

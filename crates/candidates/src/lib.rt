@@ -127,6 +127,7 @@ impl<'a> Work<'a> {
     }
 
     // Wipes the slots of the first n questions: the others are 0.
+    #[tactic(auto, using(crate::proofs::Block::front_many))]
     fn wipe(&self, multiplier: u64, n: usize, slots: &mut [u64; 4096])
         requires in_range { n ≤ length self.now.pairs.now }
         requires rest { Rest (real.index self.now.block multiplier) 0 n slots.old }
