@@ -42,7 +42,7 @@ find_from p (suc n) a = go (p a) (p (a + 0)) (ap p (omega arith)) (find_from p n
     go true false e h = cc
     go false true e h = cc
 
--- from 0
+-- ---- from 0
 
 from_0 : {A : Type 0} (p : ℕ → A) → ◌≡◌ {A = ℕ → A} (λ i. p (0 + i)) p
 from_0 p = fun_ext (λ i. ap p (omega arith))

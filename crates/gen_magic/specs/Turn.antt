@@ -47,7 +47,7 @@ turn source b end marks =
     let place : ℕ = first_free (real.size b) (real.rays b) (slots marks) end in
     turn_by b place (leb (place + real.size b) (length marks)) (chosen source b)
 
--- a loan that a refused build has still to clear, as it will be
+-- what a loan holds, or after a refusal, when it is still to be cleared, what it will hold
 abbrev pub unless_refused : Result Build Refusal → List ℕ → List ℕ
 unless_refused (Ok b) l = l
 unless_refused (Err r) l = replicate (length l) 0

@@ -4,7 +4,7 @@
 // free place, the writing of a block, the one loop over the blocks.
 // Ports: src/gen_tables/magic.rs (lines 47 to 135): generate_magic, which became `settle` (place and multiplier) and
 // `write`, and gen_all_magic. The static tables became lent slices, the random draws a source of choices.
-// Adds: the attempt budget, the room, the build from lent multipliers, the outcome with its refusal.
+// Adds: the attempt budget, the room, the build from lent multipliers, the refusals.
 #![tactic(auto)]
 
 ghost use Rattle.std.specs.Prelude.{◌≡◌, ℕ, ◌+◌, ◌^◌, ◌≤◌, ◌<◌, max, get_or, length, replicate, IfOk};
@@ -29,7 +29,8 @@ pub struct Record {
     pub shift: u8,
 }
 
-// What a build hands back of all its blocks; one that is refused hands back the refusal alone, with its block.
+// What a build hands back, in the two lists of the C interface; one that is refused hands back the refusal alone, with its
+// block.
 #[derive(Drop)]
 pub struct Build {
     pub records: [Record; 128],
@@ -67,6 +68,7 @@ fn first_free(marks: &[u64], end: usize, size: usize, rays: u64) -> usize
 // ---- the writing of a block
 
 // Walks and rays go into the slots that are hit; the part is the block's own, in table and in marks.
+#[tactic(auto, using(board::proofs::Sizes::block_size_high))]
 fn or_block(block: usize, multiplier: u64, table: &mut [u64], marks: &mut [u64])
     requires { (length table.old ≡ real.size block) × (length marks.old ≡ real.size block) }
     ensures table_after { slots table.new ≡ ored (real.index block multiplier) (real.walk block) (real.size block) (slots table.old) }
@@ -86,7 +88,9 @@ fn or_block(block: usize, multiplier: u64, table: &mut [u64], marks: &mut [u64])
     }
 }
 
-// Only the block's own part of table and marks, from its place, is lent on.
+// Only the block's own part of table and marks, from its place, is lent on. Table and marks stay two parameters, here and
+// below: a struct of both loans is no plainer, for each of its methods would have to promise that it keeps the two
+// references and their length, where one `requires` stands now.
 fn write(block: usize, multiplier: u64, place: usize, table: &mut [u64], marks: &mut [u64])
     requires { (place + real.size block ≤ length table.old) × (length marks.old ≡ length table.old) }
     ensures table_after { slots table.new ≡ ored (λ (i : ℕ). place + real.index block multiplier i) (real.walk block) (real.size block) (slots table.old) }
@@ -145,7 +149,7 @@ struct Settled {
 }
 
 // Within a block 4 before 5 or 6.
-#[tactic(auto, using(std::proofs::lemmas::Bool::Decides::nat_tests), unfolding(crate::specs::Turn::turn))]
+#[tactic(auto, using(std::proofs::lemmas::Bool::Decides::nat_tests, board::proofs::Sizes::block_size_high, crate::proofs::Turns::first_low), unfolding(crate::specs::Turn::turn))]
 fn settle(source: Source, block: usize, end: usize, marks: &[u64]) -> Result<Settled, Refusal>
     requires { (end ≤ 107648) × (end ≤ length marks.now) }
     ensures is { result ≡ turn source.entry block end marks.now }
@@ -210,7 +214,7 @@ fn gen_from(source: Source, table: &mut [u64], marks: &mut [u64]) -> Result<Buil
     clear(table, marks);
     let built = gen_blocks(source, table, marks);
     if built.is_err() {
-        clear(table, marks);
+        clear(table, marks)
     }
     built
 }

@@ -4,7 +4,6 @@ use mathlib.Core.Path.{◌≡◌, refl, ap, ap₂, ◌∙◌}
 use native.Mathlib.Omega.{arith}
 use Rattle.board.specs.Board.{attack}
 use Rattle.board.specs.Blocks.{kind_of, square_of, shift_of, subset}
-use Rattle.board.proofs.Sizes.{block_size_high}
 use Rattle.packing.specs.Pack.{or_into}
 use Rattle.blocks.specs.Real.{real, magic_index}
 use Rattle.blocks.proofs.Real.{index_lt}
@@ -19,9 +18,6 @@ loop-i-init c = record { table_is = refl; marks_is = refl }
 slot_is : (b m i question product shift at : ℕ) → question ≡ subset (kind_of b) (square_of b) i → product ≡ m * question % 2 ^ 64 → shift ≡ shift_of (kind_of b) (square_of b) → at ≡ product / 2 ^ shift → at ≡ real.index b m i
 unfolding magic_index
 slot_is b m i question product shift at eq ep es ea = ea ∙ ap₂ (λ (x y : ℕ). x / 2 ^ y) (ep ∙ ap (λ (q : ℕ). m * q % 2 ^ 64) eq) es
-
-pub prove-unreachable-requires : goal.prove-unreachable-requires
-prove-unreachable-requires c = omega (arith, c.size_at-size.ensures, block_size_high c.args.block)
 
 pub prove-unreachable-requires-in-loop-i : goal.prove-unreachable-requires-in-loop-i
 prove-unreachable-requires-in-loop-i c =
