@@ -86,12 +86,7 @@ fn is_exact(block: usize, magic: Record) -> bool
 
 // A refused look-up is taken apart first and passed on: the record is the block's own, so it is 7.
 #[tactic(auto, using(crate::proofs::Audits::subset_refused, crate::proofs::Audits::subset_right, crate::proofs::Audits::subset_wrong))]
-fn check_subset(
-    block: usize,
-    subset: usize,
-    magic: Record,
-    table: &[u64],
-) -> Result<(), Refusal>
+fn check_subset(block: usize, subset: usize, magic: Record, table: &[u64]) -> Result<(), Refusal>
     requires { Own block magic }
     ensures { checked result ≡ subset_says block magic table.now subset }
 {

@@ -20,12 +20,11 @@ ghost use Rattle.magic.specs.Audit.{audit_says};
 ghost use Rattle.slider.specs.Flat.{value_at, answer_of, verdict_of, found_of, build_of, handed, handed_of, place_of, name_of, step_of};
 ghost use Rattle.slider.specs.Batch.{Batch, fewest, asked_by, walk_asked, pext_asked, moves_asked};
 
-use std::array;
-
 use bmis::Place;
 use gen_magic::{Build, Outcome, Record};
 use refusal::{Answer, Refusal};
 use square::{Name, Step};
+use std::array;
 
 // ---- plain data: numbers, flags and zeros in place of enums, since the C interface takes none
 
@@ -474,7 +473,14 @@ pub fn slider_pext_moves_batch(
 ) -> u64
     ensures { Batch (pext_asked table.now kinds.now squares.now blockers.now) (fewest (length kinds.now) (length squares.now) (length blockers.now) (length numbers.old) (length moves.old)) result numbers.old moves.old numbers.new moves.new }
 {
-    batch(&PextMoves { table }, kinds, squares, blockers, numbers, moves)
+    batch(
+        &PextMoves { table },
+        kinds,
+        squares,
+        blockers,
+        numbers,
+        moves,
+    )
 }
 
 // The rays of all blocks, listed once for a batch, in place of a call for each query.

@@ -1,10 +1,9 @@
 -- `magic::check_block` meets its contract: the subsets before this one hold.
 use Prim.Native.Nat.{ℕ}
 use mathlib.Core.Path.{◌≡◌, sym, ap, ◌∙◌}
-use mathlib.Core.Bool.{true}
 use native.Mathlib.Omega.{arith}
-use Rattle.magic.specs.Audit.{exact, in_turn, subset_says}
-use Rattle.magic.proofs.Audits.{turn_none, turn_more, turn_exits, exact_is, block_8, block_in}
+use Rattle.magic.specs.Audit.{in_turn, subset_says}
+use Rattle.magic.proofs.Audits.{turn_exits, block_in}
 use Rattle.magic.proofs.check_block.Goals as goal
 
 pub returns-in_err-check_subset : goal.returns-in_err-check_subset

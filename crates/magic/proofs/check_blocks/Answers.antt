@@ -4,7 +4,7 @@ use mathlib.Core.Path.{◌≡◌, sym, ap, ◌∙◌}
 use native.Mathlib.Omega.{arith}
 use Rattle.gen_magic.specs.Builds.{record_in}
 use Rattle.magic.specs.Audit.{in_turn, block_says, blocks_say}
-use Rattle.magic.proofs.Audits.{turn_none, turn_more, turn_exits}
+use Rattle.magic.proofs.Audits.{turn_exits}
 use Rattle.magic.proofs.check_blocks.Goals as goal
 
 pub returns : goal.returns

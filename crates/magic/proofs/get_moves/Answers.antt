@@ -1,7 +1,6 @@
 -- `magic::get_moves` meets its contract, by the block.
 use mathlib.Core.Path.{◌∙◌}
-use Rattle.board.specs.Blocks.{block_of}
-use Rattle.board.proofs.Blocks.{by_block, refused_block}
+use Rattle.board.proofs.Blocks.{by_block}
 use Rattle.magic.specs.LookUp.{look_up}
 use Rattle.magic.proofs.get_moves.Goals as goal
 
@@ -10,4 +9,3 @@ returns-in-Gives c = let found = c in
     let a = found.args in
     c.look_up.ensures
     ∙ by_block a.kind a.sq _ (λ k s. look_up k s a.blockers a.magic a.table.now) c.in-Gives.ensures
-
