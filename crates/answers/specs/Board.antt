@@ -1,5 +1,5 @@
 -- Answers of `tables`, `rays`, `magic_helpers`, `bmis`, `candidates` and `magic`.
-use Rattle.std.specs.Prelude.{ℕ, ◌-◌, ◌^◌, List, [], ◌∷◌, ◌++◌, length, get_or, replicate}
+use Rattle.std.specs.Prelude.{ℕ, ◌-◌, ◌^◌, List, [], ◌∷◌, ◌++◌, length, get_or, replicate, Option, Some, None}
 use Rattle.refusal.specs.Paper.{Said, gives, refuses}
 use Rattle.bits.specs.Set.{digit}
 use Rattle.tables.specs.Rays as Listed
@@ -7,10 +7,9 @@ use Rattle.tables.specs.Starts.{starts}
 use Rattle.board.specs.Board.{rays, mask, attack, on_block}
 use Rattle.board.specs.Blocks.{block_of, kind_of, square_of, bits_of, size_of, shift_of, subset}
 use Rattle.bmis.specs.Bmis as Bmis
-use Rattle.bmis.specs.Bmis.{Extent, offset_of, of_length, in_table, filled, given, part_of, extent_of}
+use Rattle.bmis.specs.declared.Extent.{Extent}
+use Rattle.bmis.specs.Bmis.{offset_of, of_length, in_table, filled, given, part_of, extent_of}
 use Rattle.packing.specs.declared.Taken.{Taken}
-use Rattle.packing.specs.declared.Choice.{Choice}
-use Rattle.packing.specs.declared.Choice.TheVariants.{Chosen, None}
 use Rattle.packing.specs.Pack.{by_search}
 use Rattle.splitmix.specs.SplitMix.{candidate}
 use Rattle.blocks.specs.Real.{skips, real}
@@ -26,9 +25,9 @@ use Rattle.answers.specs.Tried.{Tried, ◌is◌not◌, one, said}
 abbrev pub place : Said Extent → List ℕ
 place x = (place_of x).number ∷ (place_of x).offset ∷ (place_of x).size ∷ []
 
-abbrev pub choice : Choice → List ℕ
+abbrev pub choice : Option Taken → List ℕ
 choice None = []
-choice (Chosen x) = x.multiplier ∷ x.count ∷ []
+choice (Some x) = x.multiplier ∷ x.count ∷ []
 
 -- number, block, multiplier, count
 abbrev pub search : Said Taken → List ℕ

@@ -1,13 +1,10 @@
 -- Answers of `refusal`, `bits`, `bitboard`, `square`, `splitmix` and `hex`.
-use Rattle.std.specs.Prelude.{ℕ, ◌*◌, ◌/◌, ◌%◌, ◌^◌, List, [], ◌∷◌, ◌++◌, replicate, option_to_list}
-use Rattle.std.proofs.Math.Option.{Option}
+use Rattle.std.specs.Prelude.{ℕ, ◌*◌, ◌/◌, ◌%◌, ◌^◌, List, [], ◌∷◌, ◌++◌, replicate, option_to_list, Option, Some, None}
 use Rattle.std.specs.Int.Count.{ones}
 use Rattle.refusal.specs.declared.Refusal.TheVariants.{Spent, IndexAt}
 use Rattle.refusal.specs.Paper.{Said, number_of}
 use Rattle.bits.specs.Intel.{pext, pdep}
 use Rattle.square.specs.Square.{make_square, rank_said, file_said, up_said, down_said, left_said, right_said, read_name, name_said}
-use Rattle.bitboard.specs.declared.Found.{Found}
-use Rattle.bitboard.specs.declared.Found.TheVariants.{At, End}
 use Rattle.bitboard.specs.Bitboard.{in_both, in_either, in_one, in_none, square_set, rank_file_set, least_square, next_of}
 use Rattle.splitmix.specs.declared.Generator.{Generator}
 use Rattle.splitmix.specs.SplitMix.{candidate_of, moved, drawn, candidate}
@@ -23,9 +20,9 @@ step x = (step_of x).number ∷ (step_of x).off ∷ (step_of x).square ∷ []
 abbrev pub name : Said (List ℕ) → List ℕ
 name x = (name_of x).number ∷ (name_of x).letter ∷ (name_of x).digit ∷ []
 
-abbrev pub found : Found → List ℕ
-found (At square rest) = square ∷ rest ∷ []
-found End = []
+abbrev pub found : Option (ℕ × ℕ) → List ℕ
+found (Some x) = x.0 ∷ x.1 ∷ []
+found None = []
 
 abbrev pub zero_state : Generator
 zero_state = record { state = 0 }

@@ -1,8 +1,6 @@
 -- Answers of the builds: their refusals, and a run over three small blocks, which shows what each word of 01's "Packing" does.
-use Rattle.std.specs.Prelude.{ℕ, false, List, [], ◌∷◌, ◌++◌, get_or, replicate}
+use Rattle.std.specs.Prelude.{ℕ, false, List, [], ◌∷◌, ◌++◌, get_or, replicate, Option, Some, None}
 use Rattle.bits.specs.Shown.{shown}
-use Rattle.packing.specs.declared.Choice.{Choice}
-use Rattle.packing.specs.declared.Choice.TheVariants.{Chosen, None}
 use Rattle.packing.specs.Pack.{Blocks, Outcome, done, refused, run}
 use Rattle.gen_magic.specs.Builds.{Left, record_in, from_seed, from_lent}
 use Rattle.slider.specs.Flat.{handed_of}
@@ -30,8 +28,8 @@ abbrev pub state : ℕ → Outcome → List ℕ
 state len (done s) = s.end ∷ (shown 3 s.offset ++ shown 3 (λ b. (s.taken b).multiplier) ++ shown 3 (λ b. (s.taken b).count) ++ shown len s.table ++ shown len s.marks)
 state len (refused number b) = number ∷ b ∷ []
 
-abbrev pub taken : ℕ → Choice
-taken b = Chosen (record { multiplier = get_or (7 ∷ 8 ∷ 9 ∷ []) b 0; count = get_or (4 ∷ 5 ∷ 6 ∷ []) b 0 })
+abbrev pub taken : ℕ → Option Taken
+taken b = Some (record { multiplier = get_or (7 ∷ 8 ∷ 9 ∷ []) b 0; count = get_or (4 ∷ 5 ∷ 6 ∷ []) b 0 })
 
 abbrev pub table : List Tried
 table =

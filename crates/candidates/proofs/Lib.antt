@@ -1,4 +1,3 @@
 pub mod Trials
 pub mod Block
-pub mod Unique
 pub mod Said

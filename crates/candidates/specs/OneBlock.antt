@@ -1,7 +1,6 @@
 -- The search of one block. 01, "Candidates" and "Numbers handed back".
-use Rattle.std.specs.Prelude.{ℕ, [], ◌∷◌, ltb, Option, Some, None, Result, Ok, Err}
-use Rattle.refusal.specs.Paper.{Said, gives, refuses, refused, refuse_if}
-use Rattle.refusal.specs.declared.Refusal.{Refusal}
+use Rattle.std.specs.Prelude.{ℕ, [], ◌∷◌, ltb, Option, Some, None}
+use Rattle.refusal.specs.Paper.{Said, gives, refuses, refuse_if}
 use Rattle.splitmix.specs.SplitMix.{candidate}
 use Rattle.packing.specs.declared.Taken.{Taken}
 use Rattle.packing.specs.Pack.{by_search}
@@ -20,8 +19,3 @@ chosen_or number block None = refuses number (block ∷ [])
 -- "The one-block search takes kind, square, seed and budget and answers that candidate and count, or 1, 2, 10 or 5."
 unfoldable pub search_of : ℕ → ℕ → ℕ → Said Taken
 search_of block seed budget = in_budget budget (chosen_or 5 block (by_search real (candidate seed) budget block))
-
--- what was found in the paper's terms
-abbrev pub searched : Result Taken Refusal → Said Taken
-searched (Ok x) = gives x
-searched (Err r) = refused r

@@ -12,11 +12,12 @@ ghost use Rattle.packing.specs.Pack.{clean, passes, by_search, by_lent};
 ghost use Rattle.blocks.specs.Real.{real, magic_index};
 ghost use Rattle.board.specs.Board.{mask as mask_of, on_block};
 ghost use Rattle.board.specs.Blocks.{block_of, kind_of, square_of, shift_of};
-ghost use Rattle.candidates.specs.OneBlock.{searched, search_of};
+ghost use Rattle.refusal.specs.Paper.{said};
+ghost use Rattle.candidates.specs.OneBlock.{search_of};
 ghost use Rattle.splitmix.specs.SplitMix.{candidate};
 
 use packing::Taken;
-use refusal::{Answer, Refusal};
+use refusal::Refusal;
 use splitmix::Generator;
 
 // ---- a block's questions and answers
@@ -209,7 +210,7 @@ pub fn lent_at(block: usize, multiplier: u64) -> Option<Taken>
 // By the block's number: 10, then 5.
 #[tactic(auto, using(std::proofs::lemmas::Bool::Decides::nat_tests), unfolding(crate::specs::OneBlock::search_of))]
 fn search_block(block: usize, seed: u64, budget: u64) -> Result<Taken, Refusal>
-    ensures { searched result ≡ search_of block seed budget }
+    ensures { said result ≡ search_of block seed budget }
 {
     if budget > 16777216 {
         return Err(Refusal::Budget);
@@ -219,10 +220,7 @@ fn search_block(block: usize, seed: u64, budget: u64) -> Result<Taken, Refusal>
 
 // By kind and square: 1, 2, then what the block's search says.
 pub fn search(kind: u8, sq: u8, seed: u64, budget: u64) -> Result<Taken, Refusal>
-    ensures { searched result ≡ on_block kind sq (search_of (block_of kind sq) seed budget) }
+    ensures { said result ≡ on_block kind sq (search_of (block_of kind sq) seed budget) }
 {
-    match rays::block(kind, sq) {
-        Answer::Gives(b) => search_block(b as usize, seed, budget),
-        Answer::Refuses(refusal) => Err(refusal),
-    }
+    search_block(rays::block(kind, sq)?, seed, budget)
 }

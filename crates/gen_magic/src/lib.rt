@@ -29,6 +29,14 @@ pub struct Record {
     pub shift: u8,
 }
 
+// In the place of a block that isn't placed.
+pub const NO_RECORD: Record = Record {
+    multiplier: 0,
+    mask: 0,
+    offset: 0,
+    shift: 0,
+};
+
 // What a build hands back, in the two lists of the C interface; one that is refused hands back the refusal alone, with its
 // block.
 #[derive(Drop)]
@@ -183,13 +191,7 @@ fn gen_blocks(source: Source, table: &mut [u64], marks: &mut [u64]) -> Result<Bu
     requires { (length marks.old ≡ length table.old) × (table.old ≡ replicate (length table.old) 0) × (marks.old ≡ replicate (length table.old) 0) }
     ensures { leaves result (unless_refused result table.new) (unless_refused result marks.new) ≡ ended (length table.old) (built source.entry (length table.old)) }
 {
-    let none = Record {
-        multiplier: 0,
-        mask: 0,
-        offset: 0,
-        shift: 0,
-    };
-    let mut records = [none; 128];
+    let mut records = [NO_RECORD; 128];
     let mut counts = [0u64; 128];
     let mut end: usize = 0;
     for block in 0..128 {

@@ -13,7 +13,6 @@ ghost use Rattle.lines.specs.Line.{query_after, query_of, walk_of, mark, answer_
 ghost use Rattle.lines.specs.Stream.{head_line};
 ghost use Rattle.lines.specs.Calls.{over, fitting, answered, fresh, line_of, pushed, next_of, says_of, room_for, taken, fed_of, written, ending};
 
-use refusal::Answer;
 
 // What a line asks for: a walk.
 #[derive(Clone, Copy)]
@@ -48,16 +47,14 @@ fn read_after(kind: u8, line: &[u8]) -> Option<Query>
     if line[1] != b' ' {
         return None;
     }
-    let Answer::Gives(square) = square::from_str(&line[2..4]) else {
-        return None;
-    };
+    let square = square::from_str(&line[2..4]).ok()?;
     if line[4] != b' ' {
         return None;
     }
     let blockers = hex_digits::read(&line[5..21])?;
     Some(Query {
         kind,
-        square: square as u8,
+        square,
         blockers,
     })
 }
@@ -82,10 +79,7 @@ fn walk_of(line: &[u8]) -> Option<u64>
     ensures { result ≡ walk_of (query_of line.now) }
 {
     let query = read_line(line)?;
-    let Answer::Gives(walk) = magic_helpers::walk(query.kind, query.square, query.blockers) else {
-        return None;
-    };
-    Some(walk)
+    magic_helpers::walk(query.kind, query.square, query.blockers).ok()
 }
 
 // Puts the answer to a line that was read at the start of out.

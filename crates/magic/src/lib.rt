@@ -12,10 +12,10 @@ ghost use Rattle.refusal.specs.Paper.{said};
 ghost use Rattle.board.specs.Board.{on_block};
 ghost use Rattle.board.specs.Blocks.{kind_of, square_of};
 ghost use Rattle.magic.specs.LookUp.{slot_in, look_with, look_up};
-ghost use Rattle.magic.specs.Audit.{exact, checked, Own, subset_says, block_says, blocks_say, audit_says};
+ghost use Rattle.magic.specs.Audit.{exact, Own, subset_says, block_says, blocks_say, audit_says};
 
 use gen_magic::Record;
-use refusal::{Answer, Refusal};
+use refusal::Refusal;
 
 // ---- the look-up
 
@@ -31,44 +31,41 @@ fn slot_in(magic: Record, blockers: u64) -> u64
 
 // With the rays at hand, for a batch that lists them once: 8, then 7.
 #[tactic(auto, using(std::proofs::lemmas::Bool::Decides::nat_tests), unfolding(crate::specs::LookUp::look_with))]
-pub fn look_with(rays: u64, blockers: u64, magic: Record, table: &[u64]) -> Answer
+pub fn look_with(rays: u64, blockers: u64, magic: Record, table: &[u64]) -> Result<u64, Refusal>
     ensures { said result ≡ look_with rays blockers magic table.now }
 {
     if (magic.shift < 52) | (magic.shift > 59) {
-        return Answer::Refuses(Refusal::Shift);
+        return Err(Refusal::Shift);
     }
     let slot = slot_in(magic, blockers) as usize;
     if slot >= table.len() {
-        return Answer::Refuses(Refusal::Index);
+        return Err(Refusal::Index);
     }
-    Answer::Gives(table[slot] & rays)
+    Ok(table[slot] & rays)
 }
 
 // By the block's number.
-fn look_up(block: usize, blockers: u64, magic: Record, table: &[u64]) -> Answer
+fn look_up(block: usize, blockers: u64, magic: Record, table: &[u64]) -> Result<u64, Refusal>
     ensures { said result ≡ look_up (kind_of block) (square_of block) blockers magic table.now }
 {
     look_with(rays::rays_at(block), blockers, magic, table)
 }
 
 #[tactic(auto, using(board::proofs::Blocks::refused_block))]
-pub fn get_moves(kind: u8, sq: u8, blockers: u64, magic: Record, table: &[u64]) -> Answer
+pub fn get_moves(kind: u8, sq: u8, blockers: u64, magic: Record, table: &[u64]) -> Result<u64, Refusal>
     ensures { said result ≡ on_block kind sq (look_up kind sq blockers magic table.now) }
 {
-    match rays::block(kind, sq) {
-        Answer::Gives(b) => look_up(b as usize, blockers, magic, table),
-        Answer::Refuses(refusal) => Answer::Refuses(refusal),
-    }
+    look_up(rays::block(kind, sq)?, blockers, magic, table)
 }
 
 // The original's two names stay, each one call.
-pub fn get_rook_moves(sq: u8, blockers: u64, magic: Record, table: &[u64]) -> Answer
+pub fn get_rook_moves(sq: u8, blockers: u64, magic: Record, table: &[u64]) -> Result<u64, Refusal>
     ensures { said result ≡ on_block 0 sq (look_up 0 sq blockers magic table.now) }
 {
     get_moves(0, sq, blockers, magic, table)
 }
 
-pub fn get_bishop_moves(sq: u8, blockers: u64, magic: Record, table: &[u64]) -> Answer
+pub fn get_bishop_moves(sq: u8, blockers: u64, magic: Record, table: &[u64]) -> Result<u64, Refusal>
     ensures { said result ≡ on_block 1 sq (look_up 1 sq blockers magic table.now) }
 {
     get_moves(1, sq, blockers, magic, table)
@@ -88,10 +85,10 @@ fn is_exact(block: usize, magic: Record) -> bool
 #[tactic(auto, using(crate::proofs::Audits::subset_refused, crate::proofs::Audits::subset_right, crate::proofs::Audits::subset_wrong))]
 fn check_subset(block: usize, subset: usize, magic: Record, table: &[u64]) -> Result<(), Refusal>
     requires { Own block magic }
-    ensures { checked result ≡ subset_says block magic table.now subset }
+    ensures { said result ≡ subset_says block magic table.now subset }
 {
     let question = magic_helpers::subset_at(block, subset as u64);
-    let Answer::Gives(found) = look_up(block, question, magic, table) else {
+    let Ok(found) = look_up(block, question, magic, table) else {
         return Err(Refusal::IndexAt { block, subset });
     };
     if found != magic_helpers::walk_at(block, question) {
@@ -103,7 +100,7 @@ fn check_subset(block: usize, subset: usize, magic: Record, table: &[u64]) -> Re
 // Mask and shift, then subsets in order.
 #[tactic(auto, using(crate::proofs::Audits::exact_is, crate::proofs::Audits::block_8, crate::proofs::Audits::block_in, crate::proofs::Audits::turn_none, crate::proofs::Audits::turn_more))]
 fn check_block(block: usize, magic: Record, table: &[u64]) -> Result<(), Refusal>
-    ensures { checked result ≡ block_says block magic table.now }
+    ensures { said result ≡ block_says block magic table.now }
 {
     if !is_exact(block, magic) {
         return Err(Refusal::RecordAt { block });
@@ -117,7 +114,7 @@ fn check_block(block: usize, magic: Record, table: &[u64]) -> Result<(), Refusal
 // The first failing block decides.
 #[tactic(auto, using(crate::proofs::Audits::turn_none, crate::proofs::Audits::turn_more), unfolding(crate::specs::Audit::blocks_say))]
 fn check_blocks(records: [Record; 128], table: &[u64]) -> Result<(), Refusal>
-    ensures { checked result ≡ blocks_say records table.now }
+    ensures { said result ≡ blocks_say records table.now }
 {
     for (block, magic) in records.iter().enumerate() {
         check_block(block, *magic, table)?;
@@ -127,14 +124,10 @@ fn check_blocks(records: [Record; 128], table: &[u64]) -> Result<(), Refusal>
 
 // On acceptance the reach: the end of block 127.
 #[tactic(auto, using(board::proofs::Sizes::block_size_high), unfolding(crate::specs::Audit::audit_says, crate::specs::Audit::reach_of))]
-pub fn audit(records: [Record; 128], table: &[u64]) -> Answer
+pub fn audit(records: [Record; 128], table: &[u64]) -> Result<u64, Refusal>
     ensures { said result ≡ audit_says records table.now }
 {
-    match check_blocks(records, table) {
-        Ok(()) => {
-            let last = records[127];
-            Answer::Gives(last.offset as u64 + magic_helpers::size_at(127) as u64)
-        }
-        Err(refusal) => Answer::Refuses(refusal),
-    }
+    check_blocks(records, table)?;
+    let last = records[127];
+    Ok(last.offset as u64 + magic_helpers::size_at(127) as u64)
 }

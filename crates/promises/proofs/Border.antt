@@ -5,12 +5,10 @@ use mathlib.Core.Path.{◌≡◌, refl, sym, subst}
 use mathlib.Core.Bool.{Bool, true, false, not, ◌||◌}
 use mathlib.Core.List.{List, [], ◌∷◌}
 use mathlib.Core.Logic.{◌⊎◌, inl, inr}
-use mathlib.Core.Option.{Option, none, some}
 use lib.Dec.{eqb, leb, ltb}
 use lib.ListN.{length, get_or}
+use Rattle.std.specs.Prelude.{Option, Some, None}
 use Rattle.refusal.specs.Paper.{Said, gives, refuses, refuse_if}
-use Rattle.packing.specs.declared.Choice.{Choice}
-use Rattle.packing.specs.declared.Choice.TheVariants.{None, Chosen}
 use Rattle.packing.specs.Pack.{by_search}
 use Rattle.blocks.specs.Real.{real}
 use Rattle.splitmix.specs.SplitMix.{candidate}
@@ -56,9 +54,9 @@ searched : (block seed budget : ℕ) → found_in (found_of (search_of block see
 unfolding search_of
 searched block seed budget = back_if found_of found_in (ltb 16777216 budget) 10 (chosen_or 5 block (by_search real (candidate seed) budget block)) refl (chosen (by_search real (candidate seed) budget block))
   where
-    chosen : (c : Choice) → found_in (found_of (chosen_or 5 block c)) ≡ chosen_or 5 block c
+    chosen : (c : Option Taken) → found_in (found_of (chosen_or 5 block c)) ≡ chosen_or 5 block c
     chosen None = refl
-    chosen (Chosen x) = refl
+    chosen (Some x) = refl
 
 -- ---- the audit
 
@@ -113,5 +111,5 @@ border =
     }
   where
     there : (to : Option ℕ) → step_in (step_of (gives to)) ≡ gives to
-    there (some t) = refl
-    there none = refl
+    there (Some t) = refl
+    there None = refl

@@ -9,13 +9,13 @@ use native.Mathlib.Omega.{arith}
 use borrow.Author.Tests.{lt-ltb, le-ltb, eq-eqb, ne_eqb}
 use lib.Dec.{ltb}
 use lib.ListN.{length, replicate}
+use Rattle.std.specs.Prelude.{Option}
 use Rattle.refusal.specs.Paper.{Said, gives, refuses, refuse_if}
 use Rattle.square.specs.Square.{square_of}
 use Rattle.board.specs.Board.{rays, on_block}
 use Rattle.board.proofs.Blocks.{on_block_lem}
 use Rattle.bmis.specs.Bmis as Bmis
 use Rattle.splitmix.specs.SplitMix.{candidate}
-use Rattle.packing.specs.declared.Choice.{Choice}
 use Rattle.packing.specs.Pack.{Outcome, done, refused, run, by_search, by_lent, seed_build, lent_build}
 use Rattle.packing.proofs.Run.{stopped}
 use Rattle.packing.proofs.Refusals.{room_or_spent, room_or_collides}
@@ -84,7 +84,7 @@ on_the_way : (left : Left) (len other : ℕ) (o : Outcome) → left ≡ ended le
 on_the_way left len other (done s) e h = inl (ap (λ (l : Left). l.says) e)
 on_the_way left len other (refused n b) e h = inr (n, b, (h n b refl).0, (h n b refl).1, zeros e)
 
-block_low : (len why : ℕ) (choice : ℕ → Choice) (n b : ℕ) → run real len why choice 128 ≡ refused n b → b < 128
+block_low : (len why : ℕ) (choice : ℕ → Option Taken) (n b : ℕ) → run real len why choice 128 ≡ refused n b → b < 128
 block_low len why choice n b e = (stopped real len why choice 128 n b e).0
 
 pub demand_1 : Demand1

@@ -9,6 +9,7 @@ use native.Mathlib.Omega.{arith}
 use native.Mathlib.Decide.{dec_lt}
 use borrow.Author.Tests.{lt-ltb, le-ltb, ltb-false}
 use lib.Dec.{ltb}
+use Rattle.std.specs.Prelude.{Option, Some, None}
 use Rattle.refusal.specs.Paper.{gives, refuses, refuse_if}
 use Rattle.refusal.proofs.Said.{gives_same, gives_not}
 use Rattle.bits.specs.Set.{count}
@@ -17,8 +18,6 @@ use Rattle.board.specs.Blocks.{block_of, kind_of, square_of}
 use Rattle.board.proofs.Blocks.{on_block_lem}
 use Rattle.splitmix.specs.SplitMix.{candidate}
 use Rattle.packing.specs.declared.Taken.{Taken}
-use Rattle.packing.specs.declared.Choice.{Choice}
-use Rattle.packing.specs.declared.Choice.TheVariants.{None, Chosen}
 use Rattle.packing.specs.Pack.{clean, passes, by_search, first_passing}
 use Rattle.packing.specs.Promised.{First, counted}
 use Rattle.packing.proofs.Agree.{agree_holds, agree_same}
@@ -51,19 +50,19 @@ candidates = record { passes_exactly = passes_exactly; clean_exactly = clean_exa
 
 -- ---- a choice, by what is said of it
 
-chosen_is : (number block : ℕ) (c : Choice) (x : Taken) → chosen_or number block c ≡ gives x → c ≡ Chosen x
+chosen_is : (number block : ℕ) (c : Option Taken) (x : Taken) → chosen_or number block c ≡ gives x → c ≡ Some x
 chosen_is number block None x e = absurd (gives_not (sym e))
-chosen_is number block (Chosen y) x e = ap Chosen (gives_same e)
+chosen_is number block (Some y) x e = ap Some (gives_same e)
 
-not_bare : (block n : ℕ) (c : Choice) → chosen_or 5 block c ≡ refuses n [] → ⊥
+not_bare : (block n : ℕ) (c : Option Taken) → chosen_or 5 block c ≡ refuses n [] → ⊥
 not_bare block n None e = let z : ◌≡◌ {A = ℕ} 0 1 = cc in omega arith
-not_bare block n (Chosen x) e = gives_not e
+not_bare block n (Some x) e = gives_not e
 
 module _ (kind sq seed budget : ℕ) (hk : kind < 2) (hs : sq < 64) where
   abbrev block : ℕ
   block = block_of kind sq
 
-  abbrev choice : Choice
+  abbrev choice : Option Taken
   choice = by_search real (candidate seed) budget block
 
   above : 16777216 < budget → found kind sq seed budget ≡ refuses 10 []
@@ -87,9 +86,9 @@ module _ (kind sq seed budget : ℕ) (hk : kind < 2) (hs : sq < 64) where
       let same : first_passing real (candidate seed) budget block ≡ p = omega (arith, ap (λ (x : Taken). x.count) f.is) in
       subst (First real (candidate seed) budget block) same f.first
 
-  nothing_else : (c : Choice) → choice ≡ c → budget ≤ 16777216 → ((p : ℕ) × (found kind sq seed budget ≡ gives (counted (candidate seed) p))) ⊎ (found kind sq seed budget ≡ refuses 5 (block ∷ []))
+  nothing_else : (c : Option Taken) → choice ≡ c → budget ≤ 16777216 → ((p : ℕ) × (found kind sq seed budget ≡ gives (counted (candidate seed) p))) ⊎ (found kind sq seed budget ≡ refuses 5 (block ∷ []))
   nothing_else None e h = inr (allowed h ∙ ap (chosen_or 5 block) e)
-  nothing_else (Chosen x) e h = let f = Choices.found real (candidate seed) budget block x e in
+  nothing_else (Some x) e h = let f = Choices.found real (candidate seed) budget block x e in
       inl (first_passing real (candidate seed) budget block, allowed h ∙ ap (chosen_or 5 block) e ∙ ap gives f.is)
 
   pub searches : Searches kind sq seed budget

@@ -1,12 +1,12 @@
 -- The border loses nothing: from the plain data that a caller in Rust or C gets, all that the call said can be told, number, block
 -- and subset included.
-use Rattle.std.specs.Prelude.{ℕ, ◌≡◌, Bool, cond, ◌||◌, List, [], ◌∷◌, eqb}
-use Rattle.std.proofs.Math.Option.{Option, none, some}
+use Rattle.std.specs.Prelude.{ℕ, ◌≡◌, Bool, cond, ◌||◌, List, [], ◌∷◌, eqb, Option, Some, None}
 use Rattle.refusal.specs.Paper.{Said, gives, refuses}
 use Rattle.square.specs.Square.{on_square, read_name, name_said}
 use Rattle.board.specs.Board.{on_block}
 use Rattle.board.specs.Blocks.{block_of}
-use Rattle.bmis.specs.Bmis.{Extent, of_length, in_table, extent_of}
+use Rattle.bmis.specs.declared.Extent.{Extent}
+use Rattle.bmis.specs.Bmis.{of_length, in_table, extent_of}
 use Rattle.packing.specs.declared.Taken.{Taken}
 use Rattle.candidates.specs.OneBlock.{search_of}
 use Rattle.gen_magic.specs.declared.Record.{Record}
@@ -36,7 +36,7 @@ abbrev pub name_in : SliderName → Said (List ℕ)
 name_in n = by_number n.number (n.letter ∷ n.digit ∷ []) []
 
 abbrev pub step_in : SliderStep → Said (Option ℕ)
-step_in s = by_number s.number (cond (eqb s.off 0) (some s.square) none) []
+step_in s = by_number s.number (cond (eqb s.off 0) (Some s.square) None) []
 
 -- of a search 5 has its block
 abbrev pub found_in : SliderFound → Said Taken

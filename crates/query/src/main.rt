@@ -6,57 +6,33 @@
 // Adds: all of it.
 #![tactic(auto)]
 
-ghost use Rattle.std.specs.Prelude.{◌≡◌, length};
+ghost use Rattle.std.specs.Prelude.{◌≡◌, ◌≤◌, length};
 
 use lines::Pending;
 use std::io;
 use std::io::{Read, Write};
 
-// What a chunk leaves, and whether there may be another.
-#[derive(Drop)]
-struct Turn {
-    pending: Pending,
-    more: bool,
-}
-
-// The line that has begun, to be answered if the input ends here; none, where a write failed: such a line was cut, and
-// nothing is answered that was not asked.
-fn kept(whole: io::Result<()>, pending: Pending) -> io::Result<Pending> {
-    whole?;
-    Ok(pending)
-}
-
-// Reads a chunk, and writes the answers of the lines that end in it. A read or a write that fails ends the run. The
-// buffer has room for what a whole chunk makes written, so that none of it is left over.
-fn one_turn<R: Read, W: Write>(
-    reader: &mut R,
+// Writes the answers of the lines that end in a chunk. A write that fails ends the run: the line that has begun was cut, and
+// nothing is answered that was not asked. The buffer has room for what a whole chunk makes written, so that none of it is
+// left over.
+fn answer_chunk<W: Write>(
     writer: &mut W,
     pending: Pending,
-    chunk: &mut [u8],
+    chunk: &[u8],
     out: &mut [u8],
-) -> io::Result<Turn>
-    requires chunk_len { length chunk.old ≡ 16384 }
+) -> io::Result<Pending>
+    requires chunk_len { length chunk.now ≤ 16384 }
     requires out_len { length out.old ≡ 32812 }
 {
-    let n = reader.read(chunk)?;
-    if n == 0 {
-        return Ok(Turn {
-            pending,
-            more: false,
-        });
-    }
-    let fed = lines::feed(pending, &chunk[0..n], out);
-    prove!(fed.used == n);
-    let written = writer.write_all(&out[0..fed.len]);
-    let next = kept(written, fed.pending)?;
-    Ok(Turn {
-        pending: next,
-        more: true,
-    })
+    let fed = lines::feed(pending, chunk, out);
+    prove!(fed.used == chunk.len());
+    writer.write_all(&out[..fed.len])?;
+    Ok(fed.pending)
 }
 
-// A proved loop ends, and nothing says that the input does: the turns count down from a number that no run uses up.
-fn all_turns<R: Read, W: Write>(
+// Reads chunks to the input's end. A proved loop ends, and nothing says that the input does: the turns count down from a
+// number that no run uses up.
+fn all_chunks<R: Read, W: Write>(
     reader: &mut R,
     writer: &mut W,
     chunk: &mut [u8],
@@ -67,11 +43,11 @@ fn all_turns<R: Read, W: Write>(
 {
     let mut pending = lines::start();
     for _ in 0..u64::MAX {
-        let turn = one_turn(reader, writer, pending, chunk, out)?;
-        pending = turn.pending;
-        if !turn.more {
+        let n = reader.read(chunk)?;
+        if n == 0 {
             break;
         }
+        pending = answer_chunk(writer, pending, &chunk[..n], out)?;
     }
     Ok(pending)
 }
@@ -82,7 +58,7 @@ fn main(rt: HostRuntime) -> io::Result<()> {
     let mut reader = rt.stdin();
     let mut writer = rt.stdout();
     writer.write_all(&lines::header())?;
-    let pending = all_turns(&mut reader, &mut writer, &mut chunk, &mut out)?;
+    let pending = all_chunks(&mut reader, &mut writer, &mut chunk, &mut out)?;
     let len = lines::finish(pending, &mut out);
-    writer.write_all(&out[0..len])
+    writer.write_all(&out[..len])
 }

@@ -8,20 +8,16 @@
 // Adds: all of it.
 #![tactic(auto)]
 
-use refusal::Answer;
-use square::Name;
+use refusal::Refusal;
 use std::io;
 use std::io::{ErrorKind, Read, Write};
 
 // A space and a set in 16 digits; no refusal is recorded.
-fn set<W: Write>(out: &mut W, answer: Answer) -> io::Result<()> {
-    let Answer::Gives(squares) = answer else {
-        return out.write_all(b" refused");
-    };
-    let mut digits = [0u8; 16];
-    hex_digits::write(squares, &mut digits);
-    out.write_all(b" ")?;
-    out.write_all(&digits)
+fn set<W: Write>(out: &mut W, answer: Result<u64, Refusal>) -> io::Result<()> {
+    match answer {
+        Ok(squares) => write!(out, " {squares:016X}"),
+        Err(_) => out.write_all(b" refused"),
+    }
 }
 
 fn end<W: Write>(out: &mut W) -> io::Result<()> {
@@ -30,8 +26,8 @@ fn end<W: Write>(out: &mut W) -> io::Result<()> {
 
 // Piece, square, rays, mask.
 fn block<W: Write>(out: &mut W, piece: u8, kind: u8, sq: u8) -> io::Result<()> {
-    if let Name::Bytes(letter, digit) = square::to_name(sq) {
-        out.write_all(&[piece, b' ', letter, digit])?;
+    if let Ok(name) = square::to_name(sq) {
+        out.write_all(&[piece, b' ', name[0], name[1]])?;
     }
     set(out, rays::get_rays(kind, sq))?;
     set(out, magic_helpers::magic_mask(kind, sq))?;

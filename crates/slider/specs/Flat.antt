@@ -1,12 +1,10 @@
 -- What crosses the border: plain data in place of what a call says. "Returns" of 01's table: a number, with block and subset
 -- beside it where the refusal carries them; 0 stands for no refusal, and what is not there is 0.
-use Rattle.std.specs.Prelude.{ℕ, List, get_or}
-use Rattle.std.proofs.Math.Option.{Option, none, some}
+use Rattle.std.specs.Prelude.{ℕ, List, get_or, Option, Some, None}
 use Rattle.refusal.specs.declared.Refusal.{Refusal}
 use Rattle.refusal.specs.Paper.{Said, gives, refuses, values_of}
-use Rattle.bmis.specs.Bmis.{Extent}
+use Rattle.bmis.specs.declared.Extent.{Extent}
 use Rattle.packing.specs.declared.Taken.{Taken}
-use Rattle.gen_magic.specs.declared.Build.{Build}
 use Rattle.gen_magic.specs.Builds.{Left}
 use Rattle.slider.specs.declared.SliderAnswer.{SliderAnswer}
 use Rattle.slider.specs.declared.SliderVerdict.{SliderVerdict}
@@ -41,8 +39,8 @@ name_of (gives l) = record { number = 0; letter = get_or l 0 0; digit = get_or l
 name_of (refuses n l) = record { number = n; letter = 0; digit = 0 }
 
 abbrev pub step_of : Said (Option ℕ) → SliderStep
-step_of (gives (some t)) = record { number = 0; off = 0; square = t }
-step_of (gives none) = record { number = 0; off = 1; square = 0 }
+step_of (gives (Some t)) = record { number = 0; off = 0; square = t }
+step_of (gives None) = record { number = 0; off = 1; square = 0 }
 step_of (refuses n l) = record { number = n; off = 0; square = 0 }
 
 -- ---- builds
@@ -54,9 +52,6 @@ number_in (refuses n l) = n
 abbrev pub block_in : Said Unit → ℕ
 block_in (gives x) = 0
 block_in (refuses n l) = get_or l 0 0
-
-abbrev pub build_of : Said Unit → Build → SliderBuild
-build_of said b = record { number = number_in said; block = block_in said; used = b.used; records = b.records; counts = b.counts }
 
 -- a build across the border, with what it leaves of its loans
 pub record Handed : Type 0 where

@@ -6,24 +6,24 @@
 // Adds: flat structs in place of the enums, which do not cross the border, each with its `From`.
 #![tactic(auto)]
 
-ghost use Rattle.std.specs.Prelude.{◌≡◌, ℕ, [], ◌∷◌, length};
+ghost use Rattle.std.specs.Prelude.{◌≡◌, ℕ, List, [], ◌∷◌, length};
 ghost use Rattle.refusal.specs.Paper.{Said, said, gives};
 ghost use Rattle.bits.specs.Shown.{shown};
-ghost use Rattle.square.specs.Square.{read_name, name_said, named, stepped, up_said, down_said, left_said, right_said};
+ghost use Rattle.square.specs.Square.{read_name, name_said, up_said, down_said, left_said, right_said};
 ghost use Rattle.board.specs.Board.{rays, rays as rays_of, mask, attack, on_block};
 ghost use Rattle.board.specs.Blocks.{block_of, kind_of, square_of, size_of, shift_of, subset};
-ghost use Rattle.bmis.specs.Bmis.{of_length, in_table, filled, look_up as pext_look_up, extent_of, placed};
-ghost use Rattle.candidates.specs.OneBlock.{search_of, searched};
-ghost use Rattle.gen_magic.specs.Builds.{told, record_in, from_seed, from_lent};
+ghost use Rattle.bmis.specs.Bmis.{of_length, in_table, filled, look_up as pext_look_up, extent_of};
+ghost use Rattle.candidates.specs.OneBlock.{search_of};
+ghost use Rattle.gen_magic.specs.Builds.{leaves, record_in, from_seed, from_lent};
 ghost use Rattle.magic.specs.LookUp.{look_up};
 ghost use Rattle.magic.specs.Audit.{audit_says};
-ghost use Rattle.slider.specs.Flat.{value_at, answer_of, verdict_of, found_of, build_of, handed, handed_of, place_of, name_of, step_of};
+ghost use Rattle.slider.specs.Flat.{value_at, answer_of, verdict_of, found_of, handed, handed_of, place_of, name_of, step_of};
 ghost use Rattle.slider.specs.Batch.{Batch, fewest, asked_by, walk_asked, pext_asked, moves_asked};
 
-use bmis::Place;
-use gen_magic::{Build, Outcome, Record};
-use refusal::{Answer, Refusal};
-use square::{Name, Step};
+use bmis::Extent;
+use gen_magic::{Build, NO_RECORD, Record};
+use packing::Taken;
+use refusal::Refusal;
 use std::array;
 
 // ---- plain data: numbers, flags and zeros in place of enums, since the C interface takes none
@@ -121,35 +121,35 @@ fn values(refusal: Refusal) -> [u64; 2]
     }
 }
 
-impl From<Answer> for SliderAnswer {
+impl From<Result<u64, Refusal>> for SliderAnswer {
     ghost from_gives = { λ a r. r ≡ answer_of (said a) };
 
-    fn from(answer: Answer) -> SliderAnswer {
+    fn from(answer: Result<u64, Refusal>) -> SliderAnswer {
         match answer {
-            Answer::Gives(value) => SliderAnswer { number: 0, value },
-            Answer::Refuses(refusal) => SliderAnswer {
-                number: refusal::number(refusal) as u64,
+            Ok(value) => SliderAnswer { number: 0, value },
+            Err(refusal) => SliderAnswer {
+                number: refusal.number() as u64,
                 value: 0,
             },
         }
     }
 }
 
-impl From<Answer> for SliderVerdict {
+impl From<Result<u64, Refusal>> for SliderVerdict {
     ghost from_gives = { λ a r. r ≡ verdict_of (said a) };
 
-    fn from(answer: Answer) -> SliderVerdict {
+    fn from(answer: Result<u64, Refusal>) -> SliderVerdict {
         match answer {
-            Answer::Gives(reach) => SliderVerdict {
+            Ok(reach) => SliderVerdict {
                 number: 0,
                 block: 0,
                 subset: 0,
                 reach,
             },
-            Answer::Refuses(refusal) => {
+            Err(refusal) => {
                 let [block, subset] = values(refusal);
                 SliderVerdict {
-                    number: refusal::number(refusal) as u64,
+                    number: refusal.number() as u64,
                     block,
                     subset,
                     reach: 0,
@@ -159,21 +159,21 @@ impl From<Answer> for SliderVerdict {
     }
 }
 
-impl From<candidates::Outcome> for SliderFound {
-    ghost from_gives = { λ o r. r ≡ found_of (searched o) };
+impl From<Result<Taken, Refusal>> for SliderFound {
+    ghost from_gives = { λ o r. r ≡ found_of (said o) };
 
-    fn from(outcome: candidates::Outcome) -> SliderFound {
-        match outcome {
-            candidates::Outcome::Found(taken) => SliderFound {
+    fn from(found: Result<Taken, Refusal>) -> SliderFound {
+        match found {
+            Ok(taken) => SliderFound {
                 number: 0,
                 block: 0,
                 multiplier: taken.multiplier,
                 count: taken.count,
             },
-            candidates::Outcome::Refused(refusal) => {
+            Err(refusal) => {
                 let [block, _] = values(refusal);
                 SliderFound {
-                    number: refusal::number(refusal) as u64,
+                    number: refusal.number() as u64,
                     block,
                     multiplier: 0,
                     count: 0,
@@ -183,41 +183,45 @@ impl From<candidates::Outcome> for SliderFound {
     }
 }
 
-impl From<Build> for SliderBuild {
-    ghost from_gives = { λ b r. r ≡ build_of (told b.outcome) b };
+impl From<Result<Build, Refusal>> for SliderBuild {
+    ghost from_gives = { λ b r. (table marks : List ℕ) → handed r table marks ≡ handed_of (leaves b table marks) };
 
-    fn from(build: Build) -> SliderBuild {
-        let [number, block] = match build.outcome {
-            Outcome::Built => [0, 0],
-            Outcome::Refused(refusal) => {
-                let [block, _] = values(refusal);
-                [refusal::number(refusal) as u64, block]
+    fn from(build: Result<Build, Refusal>) -> SliderBuild {
+        match build {
+            Ok(build) => {
+                let records = build.records;
+                let counts = build.counts;
+                SliderBuild {
+                    number: 0,
+                    block: 0,
+                    used: build.used as u64,
+                    records,
+                    counts,
+                }
             }
-        };
-        let records = build.records;
-        let counts = build.counts;
-        SliderBuild {
-            number,
-            block,
-            used: build.used as u64,
-            records,
-            counts,
+            Err(refusal) => SliderBuild {
+                number: refusal.number() as u64,
+                block: values(refusal)[0],
+                used: 0,
+                records: [NO_RECORD; 128],
+                counts: [0; 128],
+            },
         }
     }
 }
 
-impl From<Place> for SliderPlace {
-    ghost from_gives = { λ p r. r ≡ place_of (placed p) };
+impl From<Result<Extent, Refusal>> for SliderPlace {
+    ghost from_gives = { λ p r. r ≡ place_of (said p) };
 
-    fn from(place: Place) -> SliderPlace {
+    fn from(place: Result<Extent, Refusal>) -> SliderPlace {
         match place {
-            Place::At { offset, size } => SliderPlace {
+            Ok(extent) => SliderPlace {
                 number: 0,
-                offset: offset as u64,
-                size: size as u64,
+                offset: extent.offset as u64,
+                size: extent.size as u64,
             },
-            Place::Refused(refusal) => SliderPlace {
-                number: refusal::number(refusal) as u64,
+            Err(refusal) => SliderPlace {
+                number: refusal.number() as u64,
                 offset: 0,
                 size: 0,
             },
@@ -225,18 +229,21 @@ impl From<Place> for SliderPlace {
     }
 }
 
-impl From<Name> for SliderName {
-    ghost from_gives = { λ n r. r ≡ name_of (named n) };
+impl From<Result<[u8; 2], Refusal>> for SliderName {
+    ghost from_gives = { λ n r. r ≡ name_of (said n) };
 
-    fn from(name: Name) -> SliderName {
+    fn from(name: Result<[u8; 2], Refusal>) -> SliderName {
         match name {
-            Name::Bytes(letter, digit) => SliderName {
-                number: 0,
-                letter,
-                digit,
-            },
-            Name::Refused(refusal) => SliderName {
-                number: refusal::number(refusal) as u64,
+            Ok(bytes) => {
+                let [letter, digit] = bytes;
+                SliderName {
+                    number: 0,
+                    letter,
+                    digit,
+                }
+            }
+            Err(refusal) => SliderName {
+                number: refusal.number() as u64,
                 letter: 0,
                 digit: 0,
             },
@@ -244,23 +251,23 @@ impl From<Name> for SliderName {
     }
 }
 
-impl From<Step> for SliderStep {
-    ghost from_gives = { λ s r. r ≡ step_of (stepped s) };
+impl From<Result<Option<u8>, Refusal>> for SliderStep {
+    ghost from_gives = { λ s r. r ≡ step_of (said s) };
 
-    fn from(step: Step) -> SliderStep {
+    fn from(step: Result<Option<u8>, Refusal>) -> SliderStep {
         match step {
-            Step::To(square) => SliderStep {
+            Ok(Some(square)) => SliderStep {
                 number: 0,
                 off: 0,
                 square: square as u64,
             },
-            Step::Off => SliderStep {
+            Ok(None) => SliderStep {
                 number: 0,
                 off: 1,
                 square: 0,
             },
-            Step::Refused(refusal) => SliderStep {
-                number: refusal::number(refusal) as u64,
+            Err(refusal) => SliderStep {
+                number: refusal.number() as u64,
                 off: 0,
                 square: 0,
             },
@@ -285,13 +292,13 @@ pub fn slider_mask(kind: u8, sq: u8) -> SliderAnswer
 pub fn slider_size(kind: u8, sq: u8) -> SliderAnswer
     ensures { result ≡ answer_of (on_block kind sq (gives (size_of kind sq))) }
 {
-    magic_helpers::size(kind, sq).into()
+    magic_helpers::size(kind, sq).map(|n| n as u64).into()
 }
 
 pub fn slider_shift(kind: u8, sq: u8) -> SliderAnswer
     ensures { result ≡ answer_of (on_block kind sq (gives (shift_of kind sq))) }
 {
-    magic_helpers::rightshift(kind, sq).into()
+    magic_helpers::rightshift(kind, sq).map(u64::from).into()
 }
 
 pub fn slider_subset(kind: u8, sq: u8, i: u64) -> SliderAnswer
@@ -310,7 +317,7 @@ pub fn slider_walk(kind: u8, sq: u8, blockers: u64) -> SliderAnswer
 pub fn slider_square(name: &[u8]) -> SliderAnswer
     ensures { result ≡ answer_of (read_name name.now) }
 {
-    square::from_str(name).into()
+    square::from_str(name).map(u64::from).into()
 }
 
 pub fn slider_name(sq: u8) -> SliderName
@@ -348,7 +355,7 @@ pub fn slider_right(sq: u8) -> SliderStep
 pub fn slider_pext_fill(table: &mut [u16]) -> SliderAnswer
     ensures { (result ≡ answer_of (of_length (length table.old) (gives 107648))) × (table.new ≡ filled table.old) }
 {
-    bmis::gen_all_bmis(table).into()
+    bmis::gen_all_bmis(table).map(|n| n as u64).into()
 }
 
 pub fn slider_pext_moves(kind: u8, sq: u8, blockers: u64, table: &[u16]) -> SliderAnswer
@@ -499,18 +506,26 @@ struct MagicMoves<'a> {
     ghost listed: { rays.now ≡ shown 128 (λ (b : ℕ). rays_of (kind_of b) (square_of b)) },
 }
 
+impl MagicMoves<'_> {
+    #[tactic(auto, using(crate::proofs::Batches::block_below, crate::proofs::Batches::by_listed))]
+    fn look_up(&self, kind: u8, sq: u8, blockers: u64) -> Result<u64, Refusal>
+        ensures { said result ≡ on_block kind sq (look_up kind sq blockers (record_in self.now.records.now (block_of kind sq)) self.now.table.now) }
+    {
+        let block = rays::block(kind, sq)?;
+        magic::look_with(
+            self.rays[block],
+            blockers,
+            self.records[block],
+            self.table,
+        )
+    }
+}
+
 impl Asked for MagicMoves<'_> {
     ghost says = { λ asked kind s b. on_block kind s (look_up kind s b (record_in asked.records.now (block_of kind s)) asked.table.now) };
 
-    #[tactic(auto, using(crate::proofs::Batches::block_below, crate::proofs::Batches::by_listed))]
     fn ask(&self, kind: u8, sq: u8, blockers: u64) -> SliderAnswer {
-        match rays::block(kind, sq) {
-            Answer::Gives(b) => {
-                let block = b as usize;
-                magic::look_with(self.rays[block], blockers, self.records[block], self.table).into()
-            }
-            Answer::Refuses(refusal) => Answer::Refuses(refusal).into(),
-        }
+        self.look_up(kind, sq, blockers).into()
     }
 }
 

@@ -8,9 +8,7 @@
 // Adds: all of it.
 #![tactic(auto)]
 
-use bitboard::Found;
-use refusal::{Answer, Refusal};
-use square::{Name, Step};
+use refusal::Refusal;
 use std::io;
 
 fn hex(rt: &impl Print, n: u64) -> io::Result<()> {
@@ -21,25 +19,24 @@ fn end(rt: &impl Print) -> io::Result<()> {
     println!(rt)
 }
 
-// An answer, or R and the refusal's number.
-fn answer(rt: &impl Print, a: Answer) -> io::Result<()> {
+// R and a refusal's number.
+fn refused(rt: &impl Print, r: Refusal) -> io::Result<()> {
+    print!(rt; "R")?;
+    number(rt, r)
+}
+
+fn answer<T: Into<u64>>(rt: &impl Print, a: Result<T, Refusal>) -> io::Result<()> {
     match a {
-        Answer::Gives(x) => hex(rt, x),
-        Answer::Refuses(r) => {
-            print!(rt; "R")?;
-            hex(rt, refusal::number(r) as u64)
-        }
+        Ok(x) => hex(rt, x.into()),
+        Err(r) => refused(rt, r),
     }
 }
 
-fn step(rt: &impl Print, s: Step) -> io::Result<()> {
+fn step(rt: &impl Print, s: Result<Option<u8>, Refusal>) -> io::Result<()> {
     match s {
-        Step::To(t) => hex(rt, t as u64),
-        Step::Off => print!(rt; "off "),
-        Step::Refused(r) => {
-            print!(rt; "R")?;
-            hex(rt, refusal::number(r) as u64)
-        }
+        Ok(Some(t)) => hex(rt, t as u64),
+        Ok(None) => print!(rt; "off "),
+        Err(r) => refused(rt, r),
     }
 }
 
@@ -77,11 +74,11 @@ fn set_row(rt: &impl Print, x: u64, mask: u64) -> io::Result<()> {
     hex(rt, bitboard::popcnt(mask) as u64)?;
     answer(rt, bitboard::to_square(mask))?;
     match bitboard::next(mask) {
-        Found::At { square, rest } => {
+        Some((square, rest)) => {
             hex(rt, square as u64)?;
             hex(rt, rest)?;
         }
-        Found::End => print!(rt; "end ")?,
+        None => print!(rt; "end ")?,
     }
     end(rt)
 }
@@ -119,8 +116,8 @@ fn one_square(rt: &impl Print, sq: u8) -> io::Result<()> {
     step(rt, square::up(sq))?;
     step(rt, square::down(sq))?;
     answer(rt, bitboard::from_square(sq))?;
-    if let Name::Bytes(letter, figure) = square::to_name(sq) {
-        let name = [letter, figure, b'x'];
+    if let Ok(written) = square::to_name(sq) {
+        let name = [written[0], written[1], b'x'];
         rt.write_all(&name)?;
         print!(rt; " ")?;
         answer(rt, square::from_str(&name))?;
@@ -168,7 +165,7 @@ fn names(rt: &impl Print) -> io::Result<()> {
 }
 
 fn number(rt: &impl Print, r: Refusal) -> io::Result<()> {
-    hex(rt, refusal::number(r) as u64)
+    hex(rt, r.number() as u64)
 }
 
 fn numbers(rt: &impl Print) -> io::Result<()> {

@@ -4,8 +4,7 @@ use Rattle.board.proofs.Blocks.{by_block}
 use Rattle.magic.specs.LookUp.{look_up}
 use Rattle.magic.proofs.get_moves.Goals as goal
 
-pub returns-in-Gives : goal.returns-in-Gives
-returns-in-Gives c = let found = c in
-    let a = found.args in
-    c.look_up.ensures
-    ∙ by_block a.kind a.sq _ (λ k s. look_up k s a.blockers a.magic a.table.now) c.in-Gives.ensures
+pub returns : goal.returns
+returns c =
+    let a = c.args in
+    c.look_up.ensures ∙ by_block a.kind a.sq _ (λ k s. look_up k s a.blockers a.magic a.table.now) c.in_ok-block.ensures
