@@ -9,6 +9,7 @@ use lib.Dec.{eqb, leb, ltb}
 use lib.ListN.{length, get_or}
 use Rattle.std.specs.Prelude.{Option, Some, None}
 use Rattle.refusal.specs.Paper.{Said, gives, refuses, refuse_if}
+use Rattle.packing.specs.declared.Taken.{Taken}
 use Rattle.packing.specs.Pack.{by_search}
 use Rattle.blocks.specs.Real.{real}
 use Rattle.splitmix.specs.SplitMix.{candidate}

@@ -16,6 +16,7 @@ use Rattle.board.specs.Board.{rays, on_block}
 use Rattle.board.proofs.Blocks.{on_block_lem}
 use Rattle.bmis.specs.Bmis as Bmis
 use Rattle.splitmix.specs.SplitMix.{candidate}
+use Rattle.packing.specs.declared.Taken.{Taken}
 use Rattle.packing.specs.Pack.{Outcome, done, refused, run, by_search, by_lent, seed_build, lent_build}
 use Rattle.packing.proofs.Run.{stopped}
 use Rattle.packing.proofs.Refusals.{room_or_spent, room_or_collides}

@@ -26,7 +26,7 @@ fn answer_chunk<W: Write>(
 {
     let fed = lines::feed(pending, chunk, out);
     prove!(fed.used == chunk.len());
-    writer.write_all(&out[..fed.len])?;
+    writer.write_all(&out[0..fed.len])?;
     Ok(fed.pending)
 }
 
@@ -60,5 +60,5 @@ fn main(rt: HostRuntime) -> io::Result<()> {
     writer.write_all(&lines::header())?;
     let pending = all_chunks(&mut reader, &mut writer, &mut chunk, &mut out)?;
     let len = lines::finish(pending, &mut out);
-    writer.write_all(&out[..len])
+    writer.write_all(&out[0..len])
 }

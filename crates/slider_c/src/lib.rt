@@ -5,18 +5,17 @@
 // Adds: nothing to `slider`: a library and a static library are two crates.
 #![tactic(auto)]
 
-ghost use Rattle.std.specs.Prelude.{◌≡◌, ℕ, ◌≤◌, ◌<◌, min, length};
-ghost use Rattle.refusal.specs.Paper.{said, gives};
-ghost use Rattle.bits.specs.Shown.{shown};
-ghost use Rattle.square.specs.Square.{read_name, name_said, stepped, up_said, down_said, left_said, right_said};
+ghost use Rattle.std.specs.Prelude.{◌≡◌, length};
+ghost use Rattle.refusal.specs.Paper.{gives};
+ghost use Rattle.square.specs.Square.{read_name, name_said, up_said, down_said, left_said, right_said};
 ghost use Rattle.board.specs.Board.{rays, mask, attack, on_block};
-ghost use Rattle.board.specs.Blocks.{block_of, kind_of, square_of, size_of, shift_of, subset};
+ghost use Rattle.board.specs.Blocks.{block_of, size_of, shift_of, subset};
 ghost use Rattle.bmis.specs.Bmis.{of_length, in_table, filled, look_up as pext_look_up, extent_of};
 ghost use Rattle.candidates.specs.OneBlock.{search_of};
-ghost use Rattle.gen_magic.specs.Builds.{told, from_seed, from_lent};
-ghost use Rattle.magic.specs.LookUp.{look_with, look_up};
+ghost use Rattle.gen_magic.specs.Builds.{from_seed, from_lent};
+ghost use Rattle.magic.specs.LookUp.{look_up};
 ghost use Rattle.magic.specs.Audit.{audit_says};
-ghost use Rattle.slider.specs.Flat.{value_at, answer_of, verdict_of, found_of, number_in, block_in, build_of, handed, handed_of, place_of, name_of, step_of};
+ghost use Rattle.slider.specs.Flat.{answer_of, verdict_of, found_of, handed, handed_of, place_of, name_of, step_of};
 ghost use Rattle.slider.specs.Batch.{Batch, fewest, walk_asked, pext_asked, moves_asked};
 
 use gen_magic::Record;

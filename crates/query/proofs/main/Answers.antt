@@ -4,4 +4,4 @@ use Rattle.lines.proofs.Calls.{ending_fits}
 use Rattle.query.proofs.main.Goals as goal
 
 pub slice_bounds-write_all-end-2 : goal.slice_bounds-write_all-end-2
-slice_bounds-write_all-end-2 c = omega (arith, c.finish-len.ensures.value, ending_fits c.in_ok-pending.pending (length c.all_turns.new.out), c.all_turns.auto.out)
+slice_bounds-write_all-end-2 c = omega (arith, c.finish-len.ensures.value, ending_fits c.in_ok-pending.pending (length c.all_chunks.new.out), c.all_chunks.auto.out)
