@@ -5,13 +5,13 @@ use mathlib.Core.Path.{◌≡◌, refl, sym, ap, ◌∙◌}
 use mathlib.Core.Bool.{Bool, true, false, cond}
 use mathlib.Core.List.{List, [], ◌∷◌, ◌++◌, append_assoc, append-nil}
 use native.Mathlib.Omega.{arith}
-use native.Mathlib.Nat.{pow-suc, pow-le-pow_right, lt_of_lt_of_le, not-suc-le-zero}
+use native.Mathlib.Nat.{pow-suc, pow-le-pow_right, not-suc-le-zero}
 use native.Mathlib.Numerals.{add-one, sub-one}
-use lib.Dec.{ltb, leb, lit<}
+use lib.Dec.{ltb, lit<}
 use lib.ListN.{length, take, drop, get_or, set, length-append, drop_of_length-le}
 use lib.Seq.{drop-cons, set_split, drop_at, length-take-le, append_snoc}
-use borrow.Author.Tests.{ltb-true, ltb-false, leb-true, le-ltb, le-leb, lt-leb, eq-eqb, ne_eqb}
-use Rattle.std.specs.Prelude.{◌≢◌, Option, Some, None, option_and_then}
+use borrow.Author.Tests.{ltb-true, ltb-false, le-ltb, le-leb, lt-leb, eq-eqb, ne_eqb}
+use Rattle.std.specs.Prelude.{◌≢◌, Some, None, option_and_then}
 use Rattle.hex_digits.specs.Hex.{digit_of, read_after, read_word, figure_of, digits, write_word}
 
 -- ---- reading

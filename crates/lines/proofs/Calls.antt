@@ -49,7 +49,7 @@ pub ending_some : (p : Pending) (room : ℕ) → (p.len ≡ 0 → ⊥) → endin
 unfolding ending
 ending_some p room h = simp (ne_eqb _ _ h)
 
-pub answered_by : (line : List ℕ) (room : ℕ) (v : Option ℕ) → walk_of (query_of line) ≡ v → answered line room ≡ fitting (answer_to line v) room
+answered_by : (line : List ℕ) (room : ℕ) (v : Option ℕ) → walk_of (query_of line) ≡ v → answered line room ≡ fitting (answer_to line v) room
 unfolding answered answer_line
 answered_by line room v e = ap (λ (x : Option ℕ). fitting (answer_to line x) room) e
 

@@ -1,6 +1,6 @@
 -- A chunk taken byte by byte: what stands after i of its bytes, that the buffer has room for what the next one says, and what a caller learns.
 -- Assumes nothing.
-use Prim.Native.Nat.{ℕ, zero, suc, ◌+◌, ◌-◌, ◌≤◌, ◌<◌, min}
+use Prim.Native.Nat.{ℕ, zero, suc, ◌+◌, ◌-◌, ◌*◌, ◌≤◌, ◌<◌, min}
 use mathlib.Core.Path.{◌≡◌, refl, sym, ap, ◌∙◌}
 use mathlib.Core.List.{List, [], ◌∷◌, ◌++◌, append-nil}
 use native.Mathlib.Nat.{zero-min, min-zero, suc-min-suc}
@@ -13,11 +13,12 @@ use Rattle.lines.specs.declared.Pending.{Pending}
 use Rattle.lines.specs.declared.Fed.{Fed}
 use Rattle.lines.specs.Calls.{over, next_of, says_of, after, written, room_for, taken, fed_of}
 use Rattle.lines.proofs.Over.{over_none, over_length, over_rest}
-use Rattle.lines.proofs.Calls.{after_append, written_append, says_bound, written_bound}
+use Rattle.lines.proofs.Calls.{held, after_append, written_append, says_bound, written_bound}
 
 -- after i bytes of those that a buffer has room for: the state, how much was written, and the buffer
 pub record FedTo (p : Pending) (chunk out₀ : List ℕ) (i : ℕ) (state : Pending) (at : ℕ) (out : List ℕ) : Type 0 where
   pub room : length chunk ≤ room_for (length out₀)
+  pub low : at + 2 * held state ≤ 44 + 2 * i
   pub state_is : state ≡ after p (take i chunk)
   pub at_is : at ≡ length (written p (take i chunk))
   pub out_is : out ≡ over (written p (take i chunk)) out₀
@@ -51,23 +52,15 @@ fed_used p chunk room h = ap length (all_taken chunk room h)
 module _ (p : Pending) (chunk out₀ : List ℕ) where
   pub fed_none : length chunk ≤ room_for (length out₀) → FedTo p chunk out₀ 0 p 0 out₀
   unfolding after written
-  fed_none h = record { room = h; state_is = refl; at_is = refl; out_is = sym (over_none out₀) }
+  fed_none h = record { room = h; low = omega arith; state_is = refl; at_is = refl; out_is = sym (over_none out₀) }
 
   fed_length : (i : ℕ) (state : Pending) (at : ℕ) (out : List ℕ) → FedTo p chunk out₀ i state at out → i ≤ length chunk → length out ≡ length out₀
   fed_length i state at out f h =
       ap length f.out_is ∙ over_length (written p (take i chunk)) out₀ (written_fits p chunk (length out₀) i (omega (arith, f.room)))
 
   module _ (i : ℕ) (state : Pending) (at : ℕ) (out : List ℕ) (f : FedTo p chunk out₀ i state at out) (in_chunk : i < length chunk) where
-    pub next_fits : at + length (says_of state (get_or chunk i 0)) ≤ length out₀
-    next_fits =
-        rw (f.at_is, f.state_is)
-        (omega (
-          arith,
-          written_bound p (take i chunk),
-          says_bound (after p (take i chunk)) (get_or chunk i 0),
-          length-take i chunk,
-          f.room,
-        ))
+    next_fits : at + length (says_of state (get_or chunk i 0)) ≤ length out₀
+    next_fits = omega (arith, f.low, f.room, says_bound state (get_or chunk i 0))
 
     pub fed_more : (next : Pending) (len : ℕ) (part : List ℕ) → next ≡ next_of state (get_or chunk i 0) → len ≡ length (says_of state (get_or chunk i 0)) → part ≡ over (says_of state (get_or chunk i 0)) (mid_of at (length out - at) out) → FedTo p chunk out₀ (i + 1) next (at + len) (put_mid at (length out - at) out part)
     unfolding after written
@@ -83,6 +76,7 @@ module _ (p : Pending) (chunk out₀ : List ℕ) where
         let same : length out ≡ length out₀ = fed_length i state at out f (omega arith) in
         record {
           room = f.room;
+          low = omega (arith, f.low, says_bound state b, ap held e, g);
           state_is = e ∙ ap (λ (q : Pending). next_of q b) f.state_is ∙ sym (ap (after p) more ∙ after_append p s (b ∷ []));
           at_is = omega (arith, ap length wrote ∙ length-append (written p s) says, f.at_is);
           out_is =

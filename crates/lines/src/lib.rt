@@ -190,6 +190,7 @@ fn room(len: usize) -> usize
 
 // Takes a chunk of the stream, and puts the answers of the lines that end in it at the start of out. As many bytes of
 // the chunk are taken as out has room for.
+#[tactic(auto, using(crate::proofs::Calls::says_bound))]
 pub fn feed(pending: Pending, chunk: &[u8], out: &mut [u8]) -> Fed
     ensures value { result ≡ fed_of pending chunk.now (length out.old) }
     ensures out_after { out.new ≡ over (written pending (taken chunk.now (length out.old))) out.old }

@@ -1,7 +1,7 @@
 -- `hex_digits::write` meets its contract: with k digits left to write, those of the rest stand before the ones that were written.
 use mathlib.Core.Path.{◌≡◌}
 use mathlib.Core.List.{◌++◌}
-use lib.ListN.{length, drop}
+use lib.ListN.{drop}
 use Rattle.hex_digits.specs.Hex.{digits}
 use Rattle.hex_digits.proofs.write.Given as goal
 

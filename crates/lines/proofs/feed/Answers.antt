@@ -1,24 +1,11 @@
 -- `lines::feed` meets its contract: before each byte, the state, the length and the buffer are what the bytes so far make them.
 use native.Mathlib.Omega.{arith}
-use lib.ListN.{length-take, length-drop}
-use Rattle.lines.proofs.Chunk.{fed_none, next_fits, fed_more, fed_all}
+use lib.ListN.{length-take}
+use Rattle.lines.proofs.Chunk.{fed_none, fed_more, fed_all}
 use Rattle.lines.proofs.feed.Goals as goal
 
 pub loop-byte-init : goal.loop-byte-init
 loop-byte-init c = fed_none _ _ _ (omega (arith, length-take c.min-n.result c.args.chunk.now))
-
-pub slice_bounds-take_byte-count : goal.slice_bounds-take_byte-count
-slice_bounds-take_byte-count c = omega (arith, next_fits _ _ _ _ _ _ _ c.loop-byte.invariant (omega arith))
-
-pub slice_bounds-take_byte-start : goal.slice_bounds-take_byte-start
-slice_bounds-take_byte-start c = omega (arith, next_fits _ _ _ _ _ _ _ c.loop-byte.invariant (omega arith))
-
-pub take_byte-at-requires : goal.take_byte-at-requires
-take_byte-at-requires c =
-    rw (length-take, length-drop) (omega (arith, next_fits _ _ _ _ _ _ _ c.loop-byte.invariant (omega arith)))
-
-pub overflow_add-at : goal.overflow_add-at
-overflow_add-at c = omega (arith, next_fits _ _ _ _ _ _ _ c.loop-byte.invariant (omega arith))
 
 pub loop-byte-preserved : goal.loop-byte-preserved
 loop-byte-preserved c =
