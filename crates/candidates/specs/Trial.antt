@@ -12,10 +12,6 @@ pair_of b i = record { question = subset (kind_of b) (square_of b) i; answer = r
 unfoldable pub pairs_of : ℕ → List Pair
 pairs_of b = shown (real.size b) (pair_of b)
 
--- 4,096 trial slots, all free
-abbrev pub Free : List ℕ → Type 0
-Free slots = (length slots ≡ 4096) × ((j : ℕ) → get_or slots j 0 ≡ 0)
-
 -- 4,096 trial slots, all free but those of i up to n - 1
 pub record Rest (slot : ℕ → ℕ) (i n : ℕ) (slots : List ℕ) : Type 0 where
   pub long : length slots ≡ 4096

@@ -103,6 +103,7 @@ impl<'a> Work<'a> {
     }
 
     // (candidate * subset) >> shift
+    #[tactic(auto, using(crate::proofs::Block::shift_fits, crate::proofs::Block::slot_is, crate::proofs::Block::slot_low))]
     fn slot(&self, multiplier: u64, question: u64) -> usize
         ensures value { result ≡ magic_index (kind_of self.now.block) (square_of self.now.block) multiplier question }
         ensures in_range { result < 4096 }
@@ -111,6 +112,7 @@ impl<'a> Work<'a> {
     }
 
     // Enters each walk at its slot, and gives how many went in: all, where no two that differ share a slot.
+    #[tactic(auto, using(crate::proofs::Block::pairs_many, crate::proofs::Trials::filled_agrees), unfolding(packing::specs::Pack::clean))]
     fn fill(&self, multiplier: u64, slots: &mut [u64; 4096]) -> usize
         requires { slots.old ≡ replicate 4096 0 }
         ensures rest { Rest (real.index self.now.block multiplier) 0 result slots.new }
@@ -149,6 +151,7 @@ impl<'a> Work<'a> {
     }
 
     // Whether a candidate isn't skipped and has no destructive collision.
+    #[tactic(auto, using(crate::proofs::Block::skipped_fails, crate::proofs::Block::clean_passes))]
     fn passes(&self, candidate: u64, trial: &mut Trial) -> bool
         ensures { result ≡ passes real self.now.block candidate }
     {
@@ -160,6 +163,7 @@ impl<'a> Work<'a> {
     }
 
     // The first candidate of a seed that passes, within the budget.
+    #[tactic(auto, using(splitmix::proofs::Candidates::state_first, splitmix::proofs::Candidates::state_next, splitmix::proofs::Candidates::candidate_is, packing::proofs::Choices::finds, packing::proofs::Choices::search_none))]
     fn first_passing(&self, seed: u64, budget: u64) -> Option<Taken>
         ensures { result ≡ by_search real (candidate seed) budget self.now.block }
     {

