@@ -1,6 +1,7 @@
 -- Answers of the builds: their refusals, and a run over three small blocks, which shows what each word of 01's "Packing" does.
 use Rattle.std.specs.Prelude.{ℕ, false, List, [], ◌∷◌, ◌++◌, get_or, replicate, Option, Some, None}
 use Rattle.bits.specs.Shown.{shown}
+use Rattle.packing.specs.declared.Taken.{Taken}
 use Rattle.packing.specs.Pack.{Blocks, Outcome, done, refused, run}
 use Rattle.gen_magic.specs.Builds.{Left, record_in, from_seed, from_lent}
 use Rattle.slider.specs.Flat.{handed_of}
