@@ -140,18 +140,11 @@ fn table_block(kind: u8, sq: u8, entries: usize) -> Result<usize, Refusal>
 }
 
 // A square's block is handed on as a part that starts at its offset.
-fn look_at(block: usize, blockers: u64, table: &[u16]) -> u64
-    requires { length table.now ≡ 107648 }
-    ensures { result ≡ look_up (kind_of block) (square_of block) blockers table.now }
-{
-    look_in(block, part_at(block, table), blockers)
-}
-
 pub fn get_moves_bmi(kind: u8, sq: u8, blockers: u64, table: &[u16]) -> Result<u64, Refusal>
     ensures { said result ≡ in_table kind sq (length table.now) (gives (look_up kind sq blockers table.now)) }
 {
     let block = table_block(kind, sq, table.len())?;
-    Ok(look_at(block, blockers, table))
+    Ok(look_in(block, part_at(block, table), blockers))
 }
 
 // The original's two names stay, each one call.

@@ -52,7 +52,7 @@ fn figure(value: u64) -> u8
 }
 
 // Puts the 16 digits of n, most significant first, at the start of out; what follows stays. A buffer of fewer than 16
-// bytes stays as it is.
+// bytes stays as it is. Written by hand, since its clause gives each byte of a lent buffer; `{:016X}` writes to a `Write`.
 #[tactic(auto, using(crate::proofs::Laws::write_next, crate::proofs::Laws::write_end, crate::proofs::Laws::word_written, crate::proofs::Laws::word_short))]
 pub fn write(n: u64, out: &mut [u8])
     ensures { out.new ≡ write_word n out.old }

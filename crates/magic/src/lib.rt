@@ -17,7 +17,7 @@ ghost use Rattle.magic.specs.Audit.{exact, Own, subset_says, block_says, blocks_
 use gen_magic::Record;
 use refusal::Refusal;
 
-// ---- the look-up
+// ---- the look-up: a record and a table are two arguments, as the public signatures and the C interface have them
 
 // Offset and index in 64 bits: offset + index may pass 2 to the 32.
 #[tactic(auto, unfolding(crate::specs::LookUp::slot_in))]

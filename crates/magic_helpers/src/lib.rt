@@ -22,10 +22,10 @@ use refusal::Refusal;
 // ---- masks
 
 // A and H on a square's own rank, ranks 1 and 8 on its own file.
-fn own_edges(sq: usize) -> u64
-    requires { sq < 64 }
-    ensures { result ≡ set_of (cut_off 0 sq) }
+fn own_edges(block: usize) -> u64
+    ensures { result ≡ set_of (cut_off 0 (square_of block)) }
 {
+    let sq = rays::square_at(block);
     let own_rank: u64 = 0x81 << (sq / 8 * 8);
     let own_file: u64 = 0x0100_0000_0000_0001 << (sq % 8);
     own_rank | own_file
@@ -37,7 +37,7 @@ fn edges(block: usize) -> u64
 {
     match rays::kind_at(block) {
         Kind::Bishop => 0xFF81_8181_8181_81FF,
-        Kind::Rook => own_edges(block % 64),
+        Kind::Rook => own_edges(block),
     }
 }
 
@@ -76,24 +76,28 @@ pub fn subset_at(block: usize, i: u64) -> u64
 // ---- the walk
 
 // The original's bishop_directions, nw, ne, sw, se: a step to the side, and one up or down from there.
+#[tactic(auto, using(crate::proofs::Steps::left_then), unfolding(board::specs::Walk::step))]
 fn left_up(sq: u8) -> Result<Option<u8>, Refusal>
     ensures { said result ≡ on_square sq (gives (step 1 0 sq)) }
 {
     square::left(sq)?.map_or(Ok(None), square::up)
 }
 
+#[tactic(auto, using(crate::proofs::Steps::right_then), unfolding(board::specs::Walk::step))]
 fn right_up(sq: u8) -> Result<Option<u8>, Refusal>
     ensures { said result ≡ on_square sq (gives (step 1 1 sq)) }
 {
     square::right(sq)?.map_or(Ok(None), square::up)
 }
 
+#[tactic(auto, using(crate::proofs::Steps::left_then), unfolding(board::specs::Walk::step))]
 fn left_down(sq: u8) -> Result<Option<u8>, Refusal>
     ensures { said result ≡ on_square sq (gives (step 1 2 sq)) }
 {
     square::left(sq)?.map_or(Ok(None), square::down)
 }
 
+#[tactic(auto, using(crate::proofs::Steps::right_then), unfolding(board::specs::Walk::step))]
 fn right_down(sq: u8) -> Result<Option<u8>, Refusal>
     ensures { said result ≡ on_square sq (gives (step 1 3 sq)) }
 {
@@ -129,10 +133,10 @@ fn ray<F: Fn(u8) -> Result<Option<u8>, Refusal>>(go: F, sq: u8, blockers: u64) -
 
 // The original's rook_directions: left, right, up, down.
 #[tactic(auto, unfolding(board::specs::Walk::step, board::specs::Walk::walk))]
-fn rook_walk(sq: u8, blockers: u64) -> u64
-    requires { sq < 64 }
-    ensures { result ≡ walk 0 sq blockers }
+fn rook_walk(block: usize, blockers: u64) -> u64
+    ensures { result ≡ walk 0 (square_of block) blockers }
 {
+    let sq = rays::square_at(block);
     ray(square::left, sq, blockers)
         | ray(square::right, sq, blockers)
         | ray(square::up, sq, blockers)
@@ -140,10 +144,10 @@ fn rook_walk(sq: u8, blockers: u64) -> u64
 }
 
 #[tactic(auto, unfolding(board::specs::Walk::walk))]
-fn bishop_walk(sq: u8, blockers: u64) -> u64
-    requires { sq < 64 }
-    ensures { result ≡ walk 1 sq blockers }
+fn bishop_walk(block: usize, blockers: u64) -> u64
+    ensures { result ≡ walk 1 (square_of block) blockers }
 {
+    let sq = rays::square_at(block);
     ray(left_up, sq, blockers)
         | ray(right_up, sq, blockers)
         | ray(left_down, sq, blockers)
@@ -153,10 +157,9 @@ fn bishop_walk(sq: u8, blockers: u64) -> u64
 pub fn walk_at(block: usize, blockers: u64) -> u64
     ensures { result ≡ attack (kind_of block) (square_of block) blockers }
 {
-    let sq = (block % 64) as u8;
     match rays::kind_at(block) {
-        Kind::Rook => rook_walk(sq, blockers),
-        Kind::Bishop => bishop_walk(sq, blockers),
+        Kind::Rook => rook_walk(block, blockers),
+        Kind::Bishop => bishop_walk(block, blockers),
     }
 }
 

@@ -6,7 +6,7 @@
 // Adds: refusals 1 and 2.
 #![tactic(auto)]
 
-ghost use Rattle.std.specs.Prelude.{◌≡◌};
+ghost use Rattle.std.specs.Prelude.{◌≡◌, ◌<◌};
 ghost use Rattle.refusal.specs.Paper.{said, gives};
 ghost use Rattle.board.specs.Board.{on_block, rays};
 ghost use Rattle.board.specs.Blocks.{block_of, kind_of, square_of};
@@ -60,6 +60,15 @@ pub fn kind_at(block: usize) -> Kind
     } else {
         Kind::Rook
     }
+}
+
+// The square of a block.
+#[tactic(auto, unfolding(board::specs::Blocks::square_of))]
+pub fn square_at(block: usize) -> u8
+    ensures value { result ≡ square_of block }
+    ensures on_board { result < 64 }
+{
+    (block % 64) as u8
 }
 
 // The rays of a block.

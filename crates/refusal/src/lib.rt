@@ -42,7 +42,7 @@ pub enum Refusal {
 }
 
 impl Refusal {
-    // The paper's number.
+    // The paper's number. A method and not a `From`: a refusal has values besides, and the name says which part is meant.
     pub fn number(self) -> u8
         ensures { result ≡ number_of self }
     {

@@ -46,6 +46,7 @@ pub fn get_file(sq: u8) -> Result<u8, Refusal>
     Ok(on_board(sq)? % 8)
 }
 
+// Four steps and not one with a direction: each is the original's name, with its own promise.
 pub fn up(sq: u8) -> Result<Option<u8>, Refusal>
     ensures { said result ≡ up_said sq }
 {
@@ -86,7 +87,8 @@ pub fn right(sq: u8) -> Result<Option<u8>, Refusal>
     Ok(Some(sq + 1))
 }
 
-// Reads a name from the first two bytes; what follows is ignored.
+// Reads a name from the first two bytes; what follows is ignored. A square is a plain number in each public signature, so that
+// `FromStr` and `Display` have no type to stand on.
 #[tactic(auto, using(std::proofs::lemmas::Bool::Decides::nat_tests))]
 pub fn from_str(name: &[u8]) -> Result<u8, Refusal>
     ensures { said result ≡ read_name name.now }

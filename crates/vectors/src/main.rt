@@ -146,22 +146,28 @@ fn name(rt: &impl Print, bytes: &[u8]) -> io::Result<()> {
 }
 
 fn names(rt: &impl Print) -> io::Result<()> {
-    name(rt, b"")?;
-    name(rt, b"a")?;
-    name(rt, b"a1")?;
-    name(rt, b"h8")?;
-    name(rt, b"d4")?;
-    name(rt, b"d4 is a square")?;
-    name(rt, b"i1")?;
-    name(rt, b"`1")?;
-    name(rt, b"a9")?;
-    name(rt, b"a0")?;
-    name(rt, b"A1")?;
-    name(rt, b"1a")?;
-    name(rt, b" a1")?;
-    name(rt, b"a\xB1")?;
-    name(rt, b"\xE11")?;
-    name(rt, b"\x00\x00")
+    let names: [&[u8]; 16] = [
+        b"",
+        b"a",
+        b"a1",
+        b"h8",
+        b"d4",
+        b"d4 is a square",
+        b"i1",
+        b"`1",
+        b"a9",
+        b"a0",
+        b"A1",
+        b"1a",
+        b" a1",
+        b"a\xB1",
+        b"\xE11",
+        b"\x00\x00",
+    ];
+    for bytes in names {
+        name(rt, bytes)?;
+    }
+    Ok(())
 }
 
 fn number(rt: &impl Print, r: Refusal) -> io::Result<()> {
@@ -169,55 +175,68 @@ fn number(rt: &impl Print, r: Refusal) -> io::Result<()> {
 }
 
 fn numbers(rt: &impl Print) -> io::Result<()> {
-    number(rt, Refusal::Kind)?;
-    number(rt, Refusal::Square)?;
-    number(rt, Refusal::LengthsDiffer)?;
-    number(rt, Refusal::NoRoom { block: 3 })?;
-    number(rt, Refusal::Spent { block: 4 })?;
-    number(rt, Refusal::Collides { block: 5 })?;
-    number(rt, Refusal::Index)?;
-    number(
-        rt,
+    let refusals = [
+        Refusal::Kind,
+        Refusal::Square,
+        Refusal::LengthsDiffer,
+        Refusal::NoRoom { block: 3 },
+        Refusal::Spent { block: 4 },
+        Refusal::Collides { block: 5 },
+        Refusal::Index,
         Refusal::IndexAt {
             block: 6,
             subset: 1,
         },
-    )?;
-    number(rt, Refusal::Shift)?;
-    number(rt, Refusal::RecordAt { block: 7 })?;
-    number(rt, Refusal::Length)?;
-    number(rt, Refusal::Budget)?;
-    number(
-        rt,
+        Refusal::Shift,
+        Refusal::RecordAt { block: 7 },
+        Refusal::Length,
+        Refusal::Budget,
         Refusal::SlotAt {
             block: 8,
             subset: 2,
         },
-    )?;
+    ];
+    for refusal in refusals {
+        number(rt, refusal)?;
+    }
     end(rt)
 }
 
+// The sources of the manual's figures.
+const SOURCES: [u64; 10] = [
+    1,
+    2,
+    4,
+    8,
+    10,
+    15,
+    0xFFFF_FFFF_FFFF_FFF0,
+    0x1000_00A4,
+    0xFFFF_FFFF_EFFF_FF5B,
+    0x20,
+];
+
+// Ranks and files, on the board or not.
+const PAIRS: [(u8, u8); 8] = [
+    (0, 0),
+    (7, 0),
+    (0, 7),
+    (3, 4),
+    (7, 7),
+    (8, 0),
+    (0, 8),
+    (255, 255),
+];
+
 fn main(rt: HostRuntime) -> io::Result<()> {
-    figure(&rt, 1)?;
-    figure(&rt, 2)?;
-    figure(&rt, 4)?;
-    figure(&rt, 8)?;
-    figure(&rt, 10)?;
-    figure(&rt, 15)?;
-    figure(&rt, 0xFFFF_FFFF_FFFF_FFF0)?;
-    figure(&rt, 0x1000_00A4)?;
-    figure(&rt, 0xFFFF_FFFF_EFFF_FF5B)?;
-    figure(&rt, 0x20)?;
+    for source in SOURCES {
+        figure(&rt, source)?;
+    }
     rows(&rt)?;
     squares(&rt)?;
-    rank_file(&rt, 0, 0)?;
-    rank_file(&rt, 7, 0)?;
-    rank_file(&rt, 0, 7)?;
-    rank_file(&rt, 3, 4)?;
-    rank_file(&rt, 7, 7)?;
-    rank_file(&rt, 8, 0)?;
-    rank_file(&rt, 0, 8)?;
-    rank_file(&rt, 255, 255)?;
+    for (rank, file) in PAIRS {
+        rank_file(&rt, rank, file)?;
+    }
     names(&rt)?;
     numbers(&rt)
 }

@@ -1,9 +1,0 @@
--- `magic_helpers::left_up` meets its contract: a step to the left, and one up from there.
-use Rattle.square.specs.Square.{up_of}
-use Rattle.board.specs.Walk.{step}
-use Rattle.magic_helpers.proofs.Steps.{left_then}
-use Rattle.magic_helpers.proofs.left_up.Goals as goal
-
-pub returns : goal.returns
-unfolding step
-returns c = left_then c.args.sq up_of c.in_ok-left.field-0 c.map_or.result c.in_ok-left.ensures c.map_or.ensures
