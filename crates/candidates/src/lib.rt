@@ -34,7 +34,7 @@ const NO_PAIR: Pair = Pair {
     answer: 0,
 };
 
-// What the trials of a block need, worked out once.
+// What the trials of a block need, worked out once; each fact says that it is the block's own.
 #[derive(Drop)]
 struct Work<'a> {
     block: usize,
