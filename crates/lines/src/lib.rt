@@ -13,7 +13,6 @@ ghost use Rattle.lines.specs.Line.{query_after, query_of, walk_of, mark, answer_
 ghost use Rattle.lines.specs.Stream.{head_line};
 ghost use Rattle.lines.specs.Calls.{over, fitting, answered, fresh, line_of, pushed, next_of, says_of, room_for, taken, fed_of, written, ending};
 
-
 // What a line asks for: a walk. The kind is 01's number, as `magic_helpers::walk` takes it: an enum would be turned back at its
 // one use.
 #[derive(Clone, Copy)]

@@ -52,7 +52,13 @@ fn look_up(block: usize, blockers: u64, magic: Record, table: &[u64]) -> Result<
 }
 
 #[tactic(auto, using(board::proofs::Blocks::refused_block))]
-pub fn get_moves(kind: u8, sq: u8, blockers: u64, magic: Record, table: &[u64]) -> Result<u64, Refusal>
+pub fn get_moves(
+    kind: u8,
+    sq: u8,
+    blockers: u64,
+    magic: Record,
+    table: &[u64],
+) -> Result<u64, Refusal>
     ensures { said result ≡ on_block kind sq (look_up kind sq blockers magic table.now) }
 {
     look_up(rays::block(kind, sq)?, blockers, magic, table)

@@ -45,7 +45,10 @@ fn blocks<W: Write>(out: &mut W, piece: u8, kind: u8) -> io::Result<()> {
 fn walk<W: Write>(out: &mut W, line: &[u8]) -> io::Result<()> {
     out.write_all(line)?;
     if let Some(query) = lines::read_line(line) {
-        set(out, magic_helpers::walk(query.kind, query.square, query.blockers))?;
+        set(
+            out,
+            magic_helpers::walk(query.kind, query.square, query.blockers),
+        )?;
     }
     end(out)
 }

@@ -512,12 +512,7 @@ impl MagicMoves<'_> {
         ensures { said result ≡ on_block kind sq (look_up kind sq blockers (record_in self.now.records.now (block_of kind sq)) self.now.table.now) }
     {
         let block = rays::block(kind, sq)?;
-        magic::look_with(
-            self.rays[block],
-            blockers,
-            self.records[block],
-            self.table,
-        )
+        magic::look_with(self.rays[block], blockers, self.records[block], self.table)
     }
 }
 
