@@ -7,7 +7,7 @@ use mathlib.Core.List.{List, []}
 use native.Mathlib.Omega.{arith}
 use borrow.Author.Tests.{eqb-true}
 use lib.Dec.{ltb, eqb}
-use lib.ListN.{length, get_or, take, drop, length-take, length-drop}
+use lib.ListN.{length, get_or, drop, length-take, length-drop}
 use Rattle.refusal.specs.Paper.{Said, gives, refuses, refuse_if, and_then}
 use Rattle.refusal.proofs.Said.{gives_not}
 use Rattle.bits.specs.Intel.{pext, pdep}

@@ -1,9 +1,8 @@
 -- The squares that a mask leaves out, as the code has them, and the mask by them.
 -- Assumes nothing.
 use Prim.Native.Nat.{ℕ, ◌-◌, ◌*◌, ◌/◌, ◌%◌, ◌^◌, ◌<◌}
-use mathlib.Core.Path.{◌≡◌, refl, sym, ap, ap₂, ◌∙◌}
+use mathlib.Core.Path.{◌≡◌, refl, ap, ap₂, ◌∙◌}
 use mathlib.Core.Bool.{not, ◌&&◌}
-use native.Mathlib.Omega.{arith}
 use lib.Bits.{bit_and, bit_or, and_lt}
 use lib.Dec.{T, eqb, eqb→eq}
 use lib.Pow.{ones_sub-lt}
@@ -12,7 +11,6 @@ use Rattle.bits.proofs.Sets.{has_and, has_set_of, set_of_lt, is_set_of}
 use Rattle.bits.proofs.Complement.{has_not}
 use Rattle.bits.proofs.Every.{every_at}
 use Rattle.board.specs.Board.{on_ray, rays, cut_off, in_mask, mask}
-use Rattle.board.specs.Blocks.{kind_of, square_of}
 use Rattle.board.proofs.Attack.{rays_lt, has_rays}
 
 pub whole_edge : (s : ℕ) → 0xFF818181818181FF ≡ set_of (cut_off 1 s)

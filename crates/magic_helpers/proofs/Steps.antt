@@ -1,11 +1,11 @@
 -- Two steps in turn: where a step to the side leads, a second one is taken.
 -- Assumes nothing.
-use Rattle.std.proofs.Common.{◌≡◌, ℕ, ◌+◌, ◌-◌, ◌*◌, ◌/◌, ◌%◌, ◌≤◌, Bool, true, false, refl, sym, ap, ◌∙◌, arith, subst}
+use Rattle.std.proofs.Common.{◌≡◌, ℕ, ◌+◌, ◌-◌, ◌*◌, ◌/◌, ◌%◌, ◌≤◌, Bool, true, false, refl, ap, ◌∙◌, arith, subst}
 use Rattle.std.specs.Prelude.{Option, Some, None, Result, Ok, MatchOption}
 use lib.Dec.{ltb, eqb}
 use borrow.Author.Tests.{le-ltb, eqb-false, ltb-false}
 use Rattle.refusal.specs.declared.Refusal.{Refusal}
-use Rattle.refusal.specs.Paper.{Said, gives, refuse_if, said}
+use Rattle.refusal.specs.Paper.{gives, refuse_if, said}
 use Rattle.refusal.proofs.Said.{gives_same, gives_not}
 use Rattle.square.specs.Square.{rank_of, file_of, on_square, unless, left_of, right_of}
 use Rattle.board.specs.Walk.{then_step}

@@ -32,8 +32,9 @@ fn advance(state: u64) -> u64
 fn mix(state: u64) -> u64
     ensures { result ≡ mixed state }
 {
-    let z = (state ^ (state >> 30)).wrapping_mul(0xBF58_476D_1CE4_E5B9);
-    let z = (z ^ (z >> 27)).wrapping_mul(0x94D0_49BB_1331_11EB);
+    // By the helper, as 01 asks ("Choosing the form by place").
+    let z = bits::wrapping_mul(state ^ (state >> 30), 0xBF58_476D_1CE4_E5B9);
+    let z = bits::wrapping_mul(z ^ (z >> 27), 0x94D0_49BB_1331_11EB);
     z ^ (z >> 31)
 }
 

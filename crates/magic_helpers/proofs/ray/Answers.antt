@@ -1,6 +1,6 @@
 -- `magic_helpers::ray` meets its contract: what is gathered, and the walk from where the loop stands, make the whole.
-use Rattle.std.proofs.Common.{◌≡◌, ℕ, ◌<◌, refl, sym, ◌∙◌, ap, arith}
-use Rattle.std.specs.Prelude.{Option, Some, None}
+use Rattle.std.proofs.Common.{◌≡◌, ℕ, ◌<◌, refl, sym, ◌∙◌, arith}
+use Rattle.std.specs.Prelude.{Option, Some}
 use lib.Bits.{or_zero_l}
 use Rattle.refusal.specs.Paper.{gives}
 use Rattle.refusal.proofs.Said.{gives_same, gives_not}
