@@ -5,16 +5,16 @@ use mathlib.Core.Path.{◌≡◌, refl, ap, ◌∙◌}
 use mathlib.Core.Bool.{Bool, true, false, not}
 use mathlib.Core.List.{List, []}
 use native.Mathlib.Omega.{arith}
-use borrow.Author.Tests.{eqb-true}
+use borrow.Author.Tests.{eqb-true, eq-eqb, ltb-false}
 use lib.Dec.{ltb, eqb}
 use lib.ListN.{length, get_or, drop, length-take, length-drop}
-use Rattle.refusal.specs.Paper.{Said, gives, refuses, refuse_if, and_then}
-use Rattle.refusal.proofs.Said.{gives_not}
+use Rattle.refusal.specs.Paper.{Said, gives, refuses, refuse_if}
+use Rattle.refusal.proofs.Said.{gives_same, gives_not}
 use Rattle.bits.specs.Intel.{pext, pdep}
 use Rattle.bits.proofs.Parts.{get_or_part}
 use Rattle.board.specs.Board.{rays, mask, on_block}
 use Rattle.board.specs.Blocks.{block_of, kind_of, square_of, size_of}
-use Rattle.board.proofs.Blocks.{block_then, block_back, kind_lt, square_lt}
+use Rattle.board.proofs.Blocks.{on_block_lem, kind_block, square_block, kind_lt, square_lt}
 use Rattle.board.proofs.Sizes.{size_low}
 use Rattle.board.proofs.Subsets.{index_lt}
 use Rattle.bmis.specs.Bmis.{of_length, in_table, offset_of, look_up, part_of}
@@ -30,37 +30,38 @@ square_second = refl
 pub length_last : in_table {A = ℕ} 0 63 0 (gives 0) ≡ refuses 9 []
 length_last = refl
 
-length_then : {A B : Type 0} (n : ℕ) (x : Said A) (f : A → Said B) → and_then (of_length n x) f ≡ of_length n (and_then x f)
-length_then n x f = go (eqb n 107648)
+-- what is given is a block of that kind and that square, in a table of the right length, of which nothing is refused
+pub record Within (k s n b : ℕ) : Type 0 where
+  pub a_kind : k < 2
+  pub a_square : s < 64
+  pub long : n ≡ 107648
+  pub is : b ≡ block_of k s
+
+within_table : (k s n b : ℕ) → gives b ≡ in_table k s n (gives (block_of k s)) → Within k s n b
+within_table k s n b = go (ltb 1 k) refl (ltb 63 s) refl (eqb n 107648) refl
   where
-    go : (c : Bool) → and_then (refuse_if (not c) 9 x) f ≡ refuse_if (not c) 9 (and_then x f)
-    go true = refl
-    go false = refl
+    go : (p : Bool) → ltb 1 k ≡ p → (q : Bool) → ltb 63 s ≡ q → (d : Bool) → eqb n 107648 ≡ d → gives b ≡ refuse_if p 1 (refuse_if q 2 (refuse_if (not d) 9 (gives (block_of k s)))) → Within k s n b
+    go true p q r d h e = absurd (gives_not e)
+    go false p true r d h e = absurd (gives_not e)
+    go false p false r false h e = absurd (gives_not e)
+    go false p false r true h e =
+        let k1 : k ≤ 1 = ltb-false 1 k p in
+        let s63 : s ≤ 63 = ltb-false 63 s r in
+        record { a_kind = omega arith; a_square = omega arith; long = eqb-true n 107648 h; is = gives_same e }
 
-table_then : {A B : Type 0} (k s n : ℕ) (x : Said A) (f : A → Said B) → and_then (in_table k s n x) f ≡ in_table k s n (and_then x f)
-table_then k s n x f = block_then k s (of_length n x) f ∙ ap (on_block k s) (length_then n x f)
+pub table_kind : (k s n b : ℕ) → gives b ≡ in_table k s n (gives (block_of k s)) → kind_of b ≡ k
+table_kind k s n b e = let w = within_table k s n b e in ap kind_of w.is ∙ kind_block k s w.a_kind w.a_square
 
-pub by_table : {A : Type 0} (k s n b : ℕ) (f : ℕ → ℕ → Said A) → gives b ≡ in_table k s n (gives (block_of k s)) → f (kind_of b) (square_of b) ≡ in_table k s n (f k s)
-by_table k s n b f e =
-    ap (λ (z : Said ℕ). and_then z (λ m. f (kind_of m) (square_of m))) e
-    ∙ table_then k s n (gives (block_of k s)) (λ m. f (kind_of m) (square_of m)) ∙ block_back k s (λ i j. of_length n (f i j))
+pub table_square : (k s n b : ℕ) → gives b ≡ in_table k s n (gives (block_of k s)) → square_of b ≡ s
+table_square k s n b e = let w = within_table k s n b e in ap square_of w.is ∙ square_block k s w.a_square
 
-pub refused_table : {A B : Type 0} (k s n m : ℕ) (l : List ℕ) (x : A) (y : Said B) → refuses m l ≡ in_table k s n (gives x) → refuses m l ≡ in_table k s n y
-refused_table {A} k s n m l x y e = ap (λ (z : Said A). and_then z (λ _. y)) e ∙ table_then k s n (gives x) (λ _. y)
+pub table_long : (k s n b : ℕ) → gives b ≡ in_table k s n (gives (block_of k s)) → n ≡ 107648
+table_long k s n b e = (within_table k s n b e).long
 
--- the length is looked at once the block is known
-pub then_length : (k s n b : ℕ) (x : Said ℕ) → gives b ≡ on_block k s (gives (block_of k s)) → x ≡ of_length n (gives b) → x ≡ in_table k s n (gives (block_of k s))
-then_length k s n b x e q = q ∙ ap (λ (z : Said ℕ). and_then z (λ m. of_length n (gives m))) e ∙ block_then k s (gives (block_of k s)) (λ m. of_length n (gives m))
-
--- what is given is in a table of the right length
-pub right_length : (k s n b c : ℕ) → gives b ≡ in_table k s n (gives c) → n ≡ 107648
-right_length k s n b c e = go (ltb 1 k) (ltb 63 s) (eqb n 107648) refl e
-  where
-    go : (p q d : Bool) → eqb n 107648 ≡ d → gives b ≡ refuse_if p 1 (refuse_if q 2 (refuse_if (not d) 9 (gives c))) → n ≡ 107648
-    go true q d h w = absurd (gives_not w)
-    go false true d h w = absurd (gives_not w)
-    go false false true h w = eqb-true n 107648 h
-    go false false false h w = absurd (gives_not w)
+pub table_on : {A : Type 0} (k s n b : ℕ) (x : Said A) → gives b ≡ in_table k s n (gives (block_of k s)) → in_table k s n x ≡ x
+table_on k s n b x e =
+    let w = within_table k s n b e in
+    on_block_lem k s (of_length n x) w.a_kind w.a_square ∙ ap (λ (c : Bool). refuse_if (not c) 9 x) (eq-eqb n 107648 w.long)
 
 -- ---- the part of a block
 

@@ -39,6 +39,7 @@ fn block_at(p: usize) -> usize
 }
 
 // Where a block begins.
+#[tactic(auto, using(crate::proofs::Sums::start_is), unfolding(crate::specs::Bmis::offset_of, board::specs::Blocks::square_of))]
 pub fn offset_at(block: usize) -> usize
     ensures { result ≡ offset_of (kind_of block) (square_of block) }
 {
@@ -60,6 +61,7 @@ fn extent_at(block: usize) -> Extent
 }
 
 // The block as a part of a table.
+#[tactic(auto, unfolding(crate::specs::Bmis::part_of))]
 fn part_at(block: usize, table: &[u16]) -> &[u16]
     requires { length table.now ≡ 107648 }
     ensures { result.now ≡ part_of (kind_of block) (square_of block) table.now }
@@ -71,6 +73,7 @@ fn part_at(block: usize, table: &[u16]) -> &[u16]
 // ---- the fill
 
 // The walk of subset i extracted through the rays: at most 14 bits.
+#[tactic(auto, using(board::proofs::Subsets::subset_deposit, crate::proofs::Entries::entry_lt, board::proofs::Blocks::kind_lt, board::proofs::Blocks::square_lt), unfolding(crate::specs::Bmis::entry))]
 fn entry_at(block: usize, i: usize) -> u16
     ensures { result ≡ entry (kind_of block) (square_of block) i }
 {
@@ -82,6 +85,7 @@ fn entry_at(block: usize, i: usize) -> u16
 }
 
 // One block's entries, into its own part of the table.
+#[tactic(auto, using(bits::proofs::Shown::shown_store), unfolding(bits::specs::Shown::shown))]
 fn generate_bmis(block: usize, part: &mut [u16])
     ensures { part.new ≡ shown (length part.old) (entry (kind_of block) (square_of block)) }
 {
@@ -117,6 +121,7 @@ pub fn gen_all_bmis(table: &mut [u16]) -> Result<usize, Refusal>
 // ---- the look-up
 
 // In one block's part: it sees nothing else.
+#[tactic(auto, using(board::proofs::Subsets::index_lt))]
 fn look_in(block: usize, part: &[u16], blockers: u64) -> u64
     requires { length part.now ≡ size_of (kind_of block) (square_of block) }
     ensures { result ≡ pdep (get_or part.now (pext blockers (mask (kind_of block) (square_of block))) 0) (rays (kind_of block) (square_of block)) }
@@ -140,6 +145,7 @@ fn table_block(kind: u8, sq: u8, entries: usize) -> Result<usize, Refusal>
 }
 
 // A square's block is handed on as a part that starts at its offset.
+#[tactic(auto, using(crate::proofs::InTable::table_kind, crate::proofs::InTable::table_square, crate::proofs::InTable::table_on, crate::proofs::InTable::table_long, crate::proofs::InTable::look_part, crate::proofs::InTable::part_long, board::proofs::Blocks::kind_lt, board::proofs::Blocks::square_lt))]
 pub fn get_moves_bmi(kind: u8, sq: u8, blockers: u64, table: &[u16]) -> Result<u64, Refusal>
     ensures { said result ≡ in_table kind sq (length table.now) (gives (look_up kind sq blockers table.now)) }
 {
@@ -163,6 +169,7 @@ pub fn get_bishop_moves_bmi(sq: u8, blockers: u64, table: &[u16]) -> Result<u64,
 // ---- a square's block
 
 // The block as a part; the empty part, which no block is, for 1, 2 and 9.
+#[tactic(auto, using(crate::proofs::InTable::table_kind, crate::proofs::InTable::table_square, crate::proofs::InTable::table_on, crate::proofs::InTable::table_long))]
 pub fn bmi_part(kind: u8, sq: u8, table: &[u16]) -> &[u16]
     ensures { result.now ≡ given (in_table kind sq (length table.now) (gives (part_of kind sq table.now))) }
 {
@@ -173,6 +180,7 @@ pub fn bmi_part(kind: u8, sq: u8, table: &[u16]) -> &[u16]
 }
 
 // A second call on the same arguments: the number, or the block's offset and size.
+#[tactic(auto, using(crate::proofs::InTable::table_kind, crate::proofs::InTable::table_square, crate::proofs::InTable::table_on))]
 pub fn bmi_place(kind: u8, sq: u8, table: &[u16]) -> Result<Extent, Refusal>
     ensures { said result ≡ in_table kind sq (length table.now) (gives (extent_of kind sq)) }
 {

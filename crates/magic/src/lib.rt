@@ -51,7 +51,7 @@ fn look_up(block: usize, blockers: u64, magic: Record, table: &[u64]) -> Result<
     look_with(rays::rays_at(block), blockers, magic, table)
 }
 
-#[tactic(auto, using(board::proofs::Blocks::refused_block))]
+#[tactic(auto, using(rays::proofs::Found::found_kind, rays::proofs::Found::found_square, rays::proofs::Found::found_on))]
 pub fn get_moves(
     kind: u8,
     sq: u8,

@@ -22,6 +22,7 @@ use refusal::Refusal;
 // ---- masks
 
 // A and H on a square's own rank, ranks 1 and 8 on its own file.
+#[tactic(auto, using(crate::proofs::Masks::own_edges_are))]
 fn own_edges(block: usize) -> u64
     ensures { result ≡ set_of (cut_off 0 (square_of block)) }
 {
@@ -32,6 +33,7 @@ fn own_edges(block: usize) -> u64
 }
 
 // The squares that the mask leaves out: for a bishop the whole board edge, for a rook its own.
+#[tactic(auto, using(crate::proofs::Masks::whole_edge))]
 fn edges(block: usize) -> u64
     ensures { result ≡ set_of (cut_off (kind_of block) (square_of block)) }
 {
@@ -41,6 +43,7 @@ fn edges(block: usize) -> u64
     }
 }
 
+#[tactic(auto, using(crate::proofs::Masks::mask_is))]
 pub fn mask_at(block: usize) -> u64
     ensures { result ≡ mask (kind_of block) (square_of block) }
 {
@@ -48,18 +51,21 @@ pub fn mask_at(block: usize) -> u64
 }
 
 // How many squares the mask has.
+#[tactic(auto, using(bits::proofs::Count::count_ones, board::proofs::Attack::mask_lt), unfolding(board::specs::Blocks::bits_of))]
 pub fn bits_at(block: usize) -> u32
     ensures { result ≡ bits_of (kind_of block) (square_of block) }
 {
     u64::count_ones(mask_at(block))
 }
 
+#[tactic(auto, using(board::proofs::Sizes::bits_high, board::proofs::Blocks::kind_lt, board::proofs::Blocks::square_lt))]
 pub fn size_at(block: usize) -> usize
     ensures { result ≡ size_of (kind_of block) (square_of block) }
 {
     1 << bits_at(block)
 }
 
+#[tactic(auto, using(board::proofs::Sizes::bits_high, board::proofs::Blocks::kind_lt, board::proofs::Blocks::square_lt), unfolding(board::specs::Blocks::shift_of))]
 pub fn shift_at(block: usize) -> u8
     ensures { result ≡ shift_of (kind_of block) (square_of block) }
 {
@@ -67,6 +73,7 @@ pub fn shift_at(block: usize) -> u8
 }
 
 // Question i of the original's rays_to_questions.
+#[tactic(auto, using(board::proofs::Subsets::subset_deposit))]
 pub fn subset_at(block: usize, i: u64) -> u64
     ensures { result ≡ subset_of (kind_of block) (square_of block) i }
 {
@@ -154,6 +161,7 @@ fn bishop_walk(block: usize, blockers: u64) -> u64
         | ray(right_down, sq, blockers)
 }
 
+#[tactic(auto, using(board::proofs::Attack::walk_attack, board::proofs::Blocks::kind_lt, board::proofs::Blocks::square_lt))]
 pub fn walk_at(block: usize, blockers: u64) -> u64
     ensures { result ≡ attack (kind_of block) (square_of block) blockers }
 {
@@ -165,30 +173,35 @@ pub fn walk_at(block: usize, blockers: u64) -> u64
 
 // ---- by kind and square
 
+#[tactic(auto, using(rays::proofs::Found::found_kind, rays::proofs::Found::found_square, rays::proofs::Found::found_on))]
 pub fn magic_mask(kind: u8, sq: u8) -> Result<u64, Refusal>
     ensures { said result ≡ on_block kind sq (gives (mask kind sq)) }
 {
     Ok(mask_at(rays::block(kind, sq)?))
 }
 
+#[tactic(auto, using(rays::proofs::Found::found_kind, rays::proofs::Found::found_square, rays::proofs::Found::found_on))]
 pub fn size(kind: u8, sq: u8) -> Result<usize, Refusal>
     ensures { said result ≡ on_block kind sq (gives (size_of kind sq)) }
 {
     Ok(size_at(rays::block(kind, sq)?))
 }
 
+#[tactic(auto, using(rays::proofs::Found::found_kind, rays::proofs::Found::found_square, rays::proofs::Found::found_on))]
 pub fn rightshift(kind: u8, sq: u8) -> Result<u8, Refusal>
     ensures { said result ≡ on_block kind sq (gives (shift_of kind sq)) }
 {
     Ok(shift_at(rays::block(kind, sq)?))
 }
 
+#[tactic(auto, using(rays::proofs::Found::found_kind, rays::proofs::Found::found_square, rays::proofs::Found::found_on))]
 pub fn subset(kind: u8, sq: u8, i: u64) -> Result<u64, Refusal>
     ensures { said result ≡ on_block kind sq (gives (subset_of kind sq i)) }
 {
     Ok(subset_at(rays::block(kind, sq)?, i))
 }
 
+#[tactic(auto, using(rays::proofs::Found::found_kind, rays::proofs::Found::found_square, rays::proofs::Found::found_on))]
 pub fn walk(kind: u8, sq: u8, blockers: u64) -> Result<u64, Refusal>
     ensures { said result ≡ on_block kind sq (gives (attack kind sq blockers)) }
 {

@@ -15,6 +15,7 @@ use std::io::{Read, Write};
 // Writes the answers of the lines that end in a chunk. A write that fails ends the run: the line that has begun was cut, and
 // nothing is answered that was not asked. The buffer has room for what a whole chunk makes written, so that none of it is
 // left over.
+#[tactic(auto, using(lines::proofs::Chunk::fed_used, lines::proofs::Chunk::fed_fits))]
 fn answer_chunk<W: Write>(
     writer: &mut W,
     pending: Pending,
@@ -52,6 +53,7 @@ fn all_chunks<R: Read, W: Write>(
     Ok(pending)
 }
 
+#[tactic(auto, using(lines::proofs::Calls::ending_fits))]
 fn main(rt: HostRuntime) -> io::Result<()> {
     let mut chunk = [0u8; 16384];
     let mut out = [0u8; 32812];

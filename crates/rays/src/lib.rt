@@ -72,12 +72,14 @@ pub fn square_at(block: usize) -> u8
 }
 
 // The rays of a block.
+#[tactic(auto, using(crate::proofs::Table::listed_rays))]
 pub fn rays_at(block: usize) -> u64
     ensures { result ≡ rays (kind_of block) (square_of block) }
 {
     tables::rays_listed(block % 128)
 }
 
+#[tactic(auto, using(crate::proofs::Found::found_kind, crate::proofs::Found::found_square, crate::proofs::Found::found_on))]
 pub fn get_rays(kind: u8, sq: u8) -> Result<u64, Refusal>
     ensures { said result ≡ on_block kind sq (gives (rays kind sq)) }
 {

@@ -11,21 +11,9 @@ use Rattle.std.specs.Prelude.{Some}
 use Rattle.bitboard.proofs.Without.{xor_square}
 use Rattle.bitboard.proofs.next.Goals as goal
 
-pub returns-then-squares-eq0 : goal.returns-then-squares-eq0
-returns-then-squares-eq0 c = simp (eq-eqb _ _ c.if-squares-eq0.true)
-
 -- the least square is one, and on the board
 low : (c : goal.Else-squares-eq0) → count_trailing_zeros 64 c.args.squares < 64
 low c = trailing_lt 64 c.args.squares c.ranges.squares.fits (omega (arith, c.if-squares-eq0.false))
-
-pub overflow_cast-square : goal.overflow_cast-square
-overflow_cast-square c = omega (arith, low c)
-
-pub overflow_cast-one : goal.overflow_cast-one
-overflow_cast-one c = omega (arith, low c)
-
-pub overflow_shl-one : goal.overflow_shl-one
-overflow_shl-one c = low c
 
 pub returns : goal.returns
 returns c =

@@ -7,9 +7,6 @@ use Rattle.bits.proofs.Least.{least_trailing}
 use Rattle.refusal.specs.Paper.{gives}
 use Rattle.bitboard.proofs.to_square.Goals as goal
 
-pub returns-then-set-eq0 : goal.returns-then-set-eq0
-returns-then-set-eq0 c = simp (eq-eqb _ _ c.if-set-eq0.true)
-
 -- the set has a square
 some : (c : goal.Else-set-eq0) → zero < c.args.set
 some c = omega (arith, c.if-set-eq0.false)

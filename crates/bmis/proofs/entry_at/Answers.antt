@@ -24,6 +24,3 @@ pub overflow_cast-result : goal.overflow_cast-result
 overflow_cast-result c =
     let a = c.args in
     record { fits = subst (λ (n : ℕ). n < 2 ^ 16) (sym (packed_is c)) (entry_lt (kind_of a.block) (square_of a.block) a.i (kind_lt a.block) (square_lt a.block)) }
-
-pub returns : goal.returns
-returns c = packed_is c

@@ -27,11 +27,6 @@ returns-in-Ok-None g c =
     let l = c.loop-n in
     along_off _ l.n _ _ _ _ _ l.invariant.whole (led _ _ _ _ l.invariant.on_board (c.requires.1.1.0 l.at _ c.in-Ok-None.ensures) ∙ c.in-Ok-None.field-0-is)
 
-pub returns-in-Err : goal.returns-in-Err
-returns-in-Err g c =
-    let l = c.loop-n in
-    absurd (gives_not (sym (given_step _ _ _ _ l.invariant.on_board (c.requires.1.1.0 l.at _ c.in-Err.ensures))))
-
 pub overflow_shl-one : goal.overflow_shl-one
 overflow_shl-one g c =
     let l = c.loop-n in

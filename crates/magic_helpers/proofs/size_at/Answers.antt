@@ -14,9 +14,6 @@ high c =
     let b = c.args.block in
     omega (arith, c.bits_at.ensures, bits_high (kind_of b) (square_of b) (kind_lt b) (square_lt b))
 
-pub overflow_shl-result : goal.overflow_shl-result
-overflow_shl-result c = omega (arith, high c)
-
 pub returns : goal.returns
 unfolding size_of
 returns c = shl_one c.bits_at.result (omega (arith, high c)) ∙ ap (λ (n : ℕ). 2 ^ n) c.bits_at.ensures

@@ -1,9 +1,0 @@
--- `magic_helpers::magic_mask` meets its contract: by the block that the kind and the square have.
-use Rattle.std.proofs.Common.{ℕ, ap, ◌∙◌}
-use Rattle.refusal.specs.Paper.{gives}
-use Rattle.board.specs.Board.{mask}
-use Rattle.board.proofs.Blocks.{by_block}
-use Rattle.magic_helpers.proofs.magic_mask.Goals as goal
-
-pub returns : goal.returns
-returns c = ap gives c.mask_at.ensures ∙ by_block c.args.kind c.args.sq c.in_ok-block.field-0 (λ (k s : ℕ). gives (mask k s)) c.in_ok-block.ensures
