@@ -12,7 +12,7 @@ use Rattle.refusal.specs.Paper.{Said, gives, refuses, refuse_if}
 use Rattle.refusal.proofs.Said.{gives_same, gives_not}
 use Rattle.bits.specs.Intel.{pext, pdep}
 use Rattle.bits.proofs.Parts.{get_or_part}
-use Rattle.board.specs.Board.{rays, mask, on_block}
+use Rattle.board.specs.Board.{rays, mask}
 use Rattle.board.specs.Blocks.{block_of, kind_of, square_of, size_of}
 use Rattle.board.proofs.Blocks.{on_block_lem, kind_block, square_block, kind_lt, square_lt}
 use Rattle.board.proofs.Sizes.{size_low}

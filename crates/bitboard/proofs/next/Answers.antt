@@ -2,7 +2,7 @@
 use mathlib.Core.Path.{◌≡◌, sym, ap, ap₂, ◌∙◌}
 use Prim.Native.Nat.{zero, ◌<◌}
 use native.Mathlib.Omega.{arith}
-use borrow.Author.Tests.{eq-eqb, ne_eqb}
+use borrow.Author.Tests.{ne_eqb}
 use lib.Count.{count_trailing_zeros}
 use Rattle.bits.specs.Set.{has, least}
 use Rattle.bits.proofs.Least.{least_trailing, trailing_lt, trailing_has}

@@ -2,7 +2,7 @@
 use mathlib.Core.Path.{sym, ap}
 use Prim.Native.Nat.{zero, ◌<◌}
 use native.Mathlib.Omega.{arith}
-use borrow.Author.Tests.{eq-eqb, ne_eqb}
+use borrow.Author.Tests.{ne_eqb}
 use Rattle.bits.proofs.Least.{least_trailing}
 use Rattle.refusal.specs.Paper.{gives}
 use Rattle.bitboard.proofs.to_square.Goals as goal

@@ -3,7 +3,7 @@ use Rattle.std.proofs.Common.{◌≡◌, ℕ, ◌<◌, refl, sym, ◌∙◌, ari
 use Rattle.std.specs.Prelude.{Option, Some}
 use lib.Bits.{or_zero_l}
 use Rattle.refusal.specs.Paper.{gives}
-use Rattle.refusal.proofs.Said.{gives_same, gives_not}
+use Rattle.refusal.proofs.Said.{gives_same}
 use Rattle.square.specs.Square.{on_square}
 use Rattle.board.specs.Walk.{step, line, up_to}
 use Rattle.board.proofs.Lines.{step_low}
