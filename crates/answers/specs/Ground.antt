@@ -1,4 +1,4 @@
--- Answers of `refusal`, `bits`, `bitboard`, `square`, `splitmix` and `hex`.
+-- Answers of `refusal`, `bits`, `bitboard`, `square`, `splitmix` and `hex_digits`.
 use Rattle.std.specs.Prelude.{ℕ, ◌*◌, ◌/◌, ◌%◌, ◌^◌, List, [], ◌∷◌, ◌++◌, replicate, option_to_list, Option, Some, None}
 use Rattle.std.specs.Int.Count.{ones}
 use Rattle.refusal.specs.declared.Refusal.TheVariants.{Spent, IndexAt}

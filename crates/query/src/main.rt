@@ -6,27 +6,29 @@
 // Adds: all of it.
 #![tactic(auto)]
 
-ghost use Rattle.std.specs.Prelude.{◌≡◌, ◌≤◌, length};
+ghost use Rattle.std.specs.Prelude.{◌≡◌, ◌≤◌, ◌<◌, length};
 
 use lines::Pending;
 use std::io;
 use std::io::{Read, Write};
 
-// Writes the answers of the lines that end in a chunk. A write that fails ends the run: the line that has begun was cut, and
-// nothing is answered that was not asked. The buffer has room for what a whole chunk makes written, so that none of it is
-// left over.
+// Writes the answers of the lines that end in the n bytes that a read put into the chunk. A write that fails ends the run, as a
+// read does: the line that has begun was cut, and nothing is answered that was not asked. The buffer has room for what a whole
+// chunk makes written, so that none of it is left over.
 #[tactic(auto, using(lines::proofs::Chunk::fed_used, lines::proofs::Chunk::fed_fits))]
 fn answer_chunk<W: Write>(
     writer: &mut W,
     pending: Pending,
     chunk: &[u8],
+    n: usize,
     out: &mut [u8],
 ) -> io::Result<Pending>
     requires chunk_len { length chunk.now ≤ 16384 }
+    requires in_chunk { (0 < n) × (n ≤ length chunk.now) }
     requires out_len { length out.old ≡ 32812 }
 {
-    let fed = lines::feed(pending, chunk, out);
-    prove!(fed.used == chunk.len());
+    let fed = lines::feed(pending, &chunk[0..n], out);
+    prove!(fed.used == n);
     writer.write_all(&out[0..fed.len])?;
     Ok(fed.pending)
 }
@@ -48,7 +50,7 @@ fn all_chunks<R: Read, W: Write>(
         if n == 0 {
             break;
         }
-        pending = answer_chunk(writer, pending, &chunk[..n], out)?;
+        pending = answer_chunk(writer, pending, chunk, n, out)?;
     }
     Ok(pending)
 }
