@@ -1,6 +1,6 @@
 -- Answers of `tables`, `rays`, `magic_helpers`, `bmis`, `candidates` and `magic`.
-use Rattle.std.specs.Prelude.{ℕ, ◌-◌, ◌^◌, List, [], ◌∷◌, ◌++◌, length, get_or, replicate, Option, Some, None, ltb}
-use Rattle.refusal.specs.Paper.{Said, gives, refuses, refuse_if}
+use Rattle.std.specs.Prelude.{ℕ, ◌-◌, ◌^◌, List, [], ◌∷◌, ◌++◌, length, get_or, replicate, Option, Some, None}
+use Rattle.refusal.specs.Paper.{Said, gives, refuses}
 use Rattle.bits.specs.Set.{digit}
 use Rattle.tables.specs.Rays as Listed
 use Rattle.tables.specs.Starts.{starts}
@@ -60,15 +60,6 @@ table =
     -- block: rooks first, kind 2 is a bishop
     ∷ (said (on_block 0 0 (gives (block_of 0 0))) is (0 ∷ 64 ∷ []) not (0 ∷ 0 ∷ []))
     ∷ (said (on_block 2 0 (gives (block_of 2 0))) is (1 ∷ 0 ∷ []) not (0 ∷ 0 ∷ []))
-    -- kind_at: rooks first
-    ∷ (one (kind_of 0) is one 1 not one 0)
-    ∷ (one (kind_of 64) is one 0 not one 1)
-    -- square_at: the block's number, the rank
-    ∷ (one (square_of 73) is one 9 not one 73)
-    ∷ (one (square_of 73) is one 9 not one 1)
-    -- TryFrom of a kind: 2 is a bishop, 1 is refused
-    ∷ (said (refuse_if (ltb 1 2) 1 (gives 2)) is (1 ∷ 0 ∷ []) not (0 ∷ 1 ∷ []))
-    ∷ (said (refuse_if (ltb 1 1) 1 (gives 1)) is (0 ∷ 1 ∷ []) not (1 ∷ 0 ∷ []))
     -- rays_at: the square itself, nothing past block 127
     ∷ (one (rays (kind_of 64) (square_of 64)) is one 0x01010101010101FE not one 0x01010101010101FF)
     ∷ (one (rays (kind_of 128) (square_of 128)) is one 0x8040201008040200 not one 0)

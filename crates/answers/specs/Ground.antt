@@ -1,11 +1,14 @@
--- Answers of `refusal`, `bits`, `bitboard`, `square`, `splitmix` and `hex_digits`.
-use Rattle.std.specs.Prelude.{ℕ, ◌*◌, ◌/◌, ◌%◌, ◌^◌, List, [], ◌∷◌, ◌++◌, replicate, option_to_list, Option, Some, None}
+-- Answers of `refusal`, `bits`, `bitboard`, `square`, the kinds of `rays`, `splitmix` and `hex_digits`.
+use Rattle.std.specs.Prelude.{ℕ, ◌*◌, ◌/◌, ◌%◌, ◌^◌, List, [], ◌∷◌, ◌++◌, replicate, option_to_list, Option, Some, None, Ok, Err}
 use Rattle.std.specs.Int.Count.{ones}
-use Rattle.refusal.specs.declared.Refusal.TheVariants.{Spent, IndexAt}
+use Rattle.refusal.specs.declared.Refusal.TheVariants.{Kind, Spent, IndexAt}
 use Rattle.refusal.specs.Paper.{Said, number_of}
 use Rattle.bits.specs.Intel.{pext, pdep}
 use Rattle.square.specs.Square.{make_square, rank_said, file_said, up_said, down_said, left_said, right_said, read_name, name_said}
 use Rattle.bitboard.specs.Bitboard.{in_both, in_either, in_one, in_none, square_set, rank_file_set, least_square, next_of}
+use Rattle.board.specs.Blocks.{kind_of, square_of}
+use Rattle.rays.specs.declared.Kind.TheVariants.{Rook, Bishop}
+use Rattle.rays.specs.Kind.{read}
 use Rattle.splitmix.specs.declared.Generator.{Generator}
 use Rattle.splitmix.specs.SplitMix.{candidate_of, moved, drawn, candidate}
 use Rattle.hex_digits.specs.Hex.{read_word, write_word}
@@ -107,6 +110,16 @@ table =
     ∷ (name (name_said 1) is (0 ∷ 98 ∷ 49 ∷ []) not (0 ∷ 49 ∷ 98 ∷ []))
     ∷ (name (name_said 1) is (0 ∷ 98 ∷ 49 ∷ []) not (0 ∷ 97 ∷ 50 ∷ []))
     ∷ (name (name_said 64) is (2 ∷ 0 ∷ 0 ∷ []) not (0 ∷ 97 ∷ 57 ∷ []))
+    -- TryFrom of a kind: the kinds swapped, a kind above 1 as a square above 63
+    ∷ (said (read (Ok Rook)) is (0 ∷ 0 ∷ []) not (0 ∷ 1 ∷ []))
+    ∷ (said (read (Ok Bishop)) is (0 ∷ 1 ∷ []) not (0 ∷ 0 ∷ []))
+    ∷ (said (read (Err Kind)) is (1 ∷ 0 ∷ []) not (2 ∷ 0 ∷ []))
+    -- kind_at: rooks first, nothing past block 127
+    ∷ (one (kind_of 0) is one 1 not one 0)
+    ∷ (one (kind_of 192) is one 0 not one 1)
+    -- square_at: the block's number, the rank
+    ∷ (one (square_of 73) is one 9 not one 73)
+    ∷ (one (square_of 73) is one 9 not one 1)
     -- draw: the generator stays, one output for the AND of three
     ∷ (((drawn zero_state).candidate ∷ (drawn zero_state).next.state ∷ []) is (0x200080800094504 ∷ 0xdaa66d2c7ddf743f ∷ []) not (0x200080800094504 ∷ 0 ∷ []))
     ∷ (((drawn zero_state).candidate ∷ (drawn zero_state).next.state ∷ []) is (0x200080800094504 ∷ 0xdaa66d2c7ddf743f ∷ []) not (0xe220a8397b1dcdaf ∷ 0xdaa66d2c7ddf743f ∷ []))

@@ -113,7 +113,10 @@ pub fn from_str(name: &[u8]) -> Result<u8, Refusal>
     Ok(8 * (figure - b'1') + (letter - b'a'))
 }
 
-pub fn to_name(sq: u8) -> Result<[u8; 2], Refusal>
+// A square's name: its letter and its digit.
+pub type Name = [u8; 2];
+
+pub fn to_name(sq: u8) -> Result<Name, Refusal>
     ensures { said result ≡ name_said sq }
 {
     let sq = on_board(sq)?;
