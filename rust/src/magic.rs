@@ -12,7 +12,7 @@ pub const ALL_SLOTS: usize = 107_648;
 /// The largest budget that a build or a search takes.
 pub const MAX_BUDGET: u64 = 16_777_216;
 /// A stack on which every call of this package runs, in bytes: a thread that builds or searches should have so much. Measured, a build
-/// from a seed needs 240 KiB, one from multipliers 140 KiB, a search 104 KiB. A thread of the standard library has 2 MiB unless it is
+/// from a seed needs 244 KiB, one from multipliers 148 KiB, a search 104 KiB. A thread of the standard library has 2 MiB unless it is
 /// told otherwise.
 pub const STACK: usize = 512 * 1024;
 
