@@ -10,7 +10,7 @@
  * once. A slice is a pointer and the number of elements behind it; the elements must be there, aligned, and lent for the call: what is
  * const is read, what is not is written and must not overlap with anything else that is lent. Of length 0 the pointer is not read.
  *
- * Stack: measured, a search needs 112 KiB, a build from a seed 232 KiB, one from multipliers 136 KiB, all else 20 KiB at most. Give a
+ * Stack: measured, a search needs 112 KiB, a build from a seed 232 KiB, one from multipliers 140 KiB, all else 20 KiB at most. Give a
  * thread that builds or searches SLIDER_STACK bytes, which is more than twice that.
  *
  * `number` in an answer is SLIDER_OK or the refusal's. The first that holds in the order 1, 2, 9, 10, 3 is given; in a look-up 8 before

@@ -68,6 +68,9 @@ table_on k s n b x e =
 pub part_ends : (b : ℕ) → offset_of (kind_of b) (square_of b) + size_of (kind_of b) (square_of b) ≤ 107648
 part_ends b = offset_within (kind_of b) (square_of b) (kind_lt b) (square_lt b)
 
+pub block_ends : (b offset size : ℕ) → offset ≡ offset_of (kind_of b) (square_of b) → size ≡ size_of (kind_of b) (square_of b) → offset + size ≤ 107648
+block_ends b offset size eo es = omega (arith, part_ends b)
+
 -- a block's part is as long as the block; so "the empty part, which no block is"
 pub part_long : (k s : ℕ) (table : List ℕ) → k < 2 → s < 64 → length table ≡ 107648 → length (part_of k s table) ≡ size_of k s
 unfolding part_of

@@ -126,7 +126,7 @@ fn clear(table: &mut [u64], marks: &mut [u64])
 
 // Where the multipliers of a build come from.
 #[derive(Clone, Copy)]
-enum Source<'a> {
+pub enum Source<'a> {
     Seed { seed: u64, budget: u64 },
     Lent(&'a [u64]),
 }
@@ -151,9 +151,9 @@ impl Source<'_> {
 
 // Where a block goes and what is taken for it.
 #[derive(Clone, Copy)]
-struct Settled {
-    place: usize,
-    taken: Taken,
+pub struct Settled {
+    pub place: usize,
+    pub taken: Taken,
 }
 
 // Within a block 4 before 5 or 6.

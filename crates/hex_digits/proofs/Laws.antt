@@ -9,7 +9,7 @@ use native.Mathlib.Nat.{pow-suc, pow-le-pow_right, not-suc-le-zero}
 use native.Mathlib.Numerals.{add-one, sub-one}
 use lib.Dec.{ltb, lit<}
 use lib.ListN.{length, take, drop, get_or, set, length-append, drop_of_length-le}
-use lib.Seq.{drop-cons, set_split, drop_at, length-take-le, append_snoc}
+use lib.Seq.{drop-cons, set_split, drop_at, take_all, length-take-le, append_snoc}
 use borrow.Author.Tests.{ltb-true, ltb-false, le-ltb, le-leb, lt-leb, eq-eqb, ne_eqb}
 use Rattle.std.specs.Prelude.{◌≢◌, Some, None, option_and_then}
 use Rattle.hex_digits.specs.Hex.{digit_of, read_after, read_word, figure_of, digits, write_word}
@@ -43,9 +43,17 @@ pub word_none : (l : List ℕ) → length l ≢ 16 → read_word l ≡ None
 unfolding read_word
 word_none l h = simp (ne_eqb _ _ h)
 
+-- a word has no byte past the sixteenth
+pub word_whole : (l : List ℕ) → length l ≡ 16 → take 16 l ≡ l
+word_whole l h = take_all 16 l (omega arith)
+
 -- what is below a power of 16 fits 60 bits up to the fifteenth
 pub power_low : (i : ℕ) → i < 16 → 16 ^ i ≤ 2 ^ 60
 power_low i h = let last : i ≤ 15 = omega arith in pow-le-pow_right (lit< tt) last
+
+-- a number of fewer than 16 digits leaves room for another
+pub number_low : (n i : ℕ) → n < 16 ^ i → i < 16 → n < 2 ^ 60
+number_low n i h k = omega (arith, power_low i k)
 
 pub power_more : (i : ℕ) → 16 ^ (i + 1) ≡ 16 * 16 ^ i
 power_more i = rw (add-one, pow-suc) (omega arith)

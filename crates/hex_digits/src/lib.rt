@@ -23,7 +23,7 @@ fn digit(byte: u8) -> Option<u64>
 
 // The number that 16 bytes spell, most significant digit first; no number from another count of bytes or from a byte
 // that is no digit.
-#[tactic(auto, using(crate::proofs::Laws::read_next, crate::proofs::Laws::read_none, crate::proofs::Laws::read_end, crate::proofs::Laws::word_read, crate::proofs::Laws::word_none, crate::proofs::Laws::power_low, crate::proofs::Laws::power_more))]
+#[tactic(auto, using(crate::proofs::Laws::read_next, crate::proofs::Laws::read_none, crate::proofs::Laws::read_end, crate::proofs::Laws::word_whole, crate::proofs::Laws::word_read, crate::proofs::Laws::word_none, crate::proofs::Laws::power_low, crate::proofs::Laws::power_more))]
 pub fn read(bytes: &[u8]) -> Option<u64>
     ensures { result ≡ read_word bytes.now }
 {
@@ -31,7 +31,7 @@ pub fn read(bytes: &[u8]) -> Option<u64>
         return None;
     }
     let mut number: u64 = 0;
-    for byte in bytes {
+    for byte in &bytes[..16] {
         let d = digit(*byte)?;
         number = 16 * number + d;
     }

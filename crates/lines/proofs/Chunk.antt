@@ -15,13 +15,17 @@ use Rattle.lines.specs.Calls.{over, next_of, says_of, after, written, room_for, 
 use Rattle.lines.proofs.Over.{over_none, over_length, over_rest}
 use Rattle.lines.proofs.Calls.{held, after_append, written_append, says_bound, written_bound}
 
--- after i bytes of those that a buffer has room for: the state, how much was written, and the buffer
+-- after i bytes of a chunk: the state, how much was written, and the buffer
 pub record FedTo (p : Pending) (chunk out₀ : List ℕ) (i : ℕ) (state : Pending) (at : ℕ) (out : List ℕ) : Type 0 where
-  pub room : length chunk ≤ room_for (length out₀)
-  pub low : at + 2 * held state ≤ 44 + 2 * i
   pub state_is : state ≡ after p (take i chunk)
   pub at_is : at ≡ length (written p (take i chunk))
   pub out_is : out ≡ over (written p (take i chunk)) out₀
+
+-- the same before a byte of those that the buffer has room for: how much was written leaves room for what the byte says
+pub record Feeding (p : Pending) (chunk out₀ : List ℕ) (i : ℕ) (state : Pending) (at : ℕ) (out : List ℕ) : Type 0 where
+  pub room : length chunk ≤ room_for (length out₀)
+  pub low : at + 2 * held state ≤ 44 + 2 * i
+  pub fed : FedTo p chunk out₀ i state at out
 
 take_min : (l : List ℕ) (k : ℕ) → take (min (length l) k) l ≡ take k l
 take_min [] k = rw zero-min (sym (take-nil k))
@@ -50,17 +54,24 @@ fed_used p chunk room h = ap length (all_taken chunk room h)
 -- ---- the loop
 
 module _ (p : Pending) (chunk out₀ : List ℕ) where
-  pub fed_none : length chunk ≤ room_for (length out₀) → FedTo p chunk out₀ 0 p 0 out₀
+  pub fed_none : FedTo p chunk out₀ 0 p 0 out₀
   unfolding after written
-  fed_none h = record { room = h; low = omega arith; state_is = refl; at_is = refl; out_is = sym (over_none out₀) }
+  fed_none = record { state_is = refl; at_is = refl; out_is = sym (over_none out₀) }
 
-  fed_length : (i : ℕ) (state : Pending) (at : ℕ) (out : List ℕ) → FedTo p chunk out₀ i state at out → i ≤ length chunk → length out ≡ length out₀
+  pub fed_length : (i : ℕ) (state : Pending) (at : ℕ) (out : List ℕ) → FedTo p chunk out₀ i state at out → i ≤ room_for (length out₀) → length out ≡ length out₀
   fed_length i state at out f h =
-      ap length f.out_is ∙ over_length (written p (take i chunk)) out₀ (written_fits p chunk (length out₀) i (omega (arith, f.room)))
+      ap length f.out_is ∙ over_length (written p (take i chunk)) out₀ (written_fits p chunk (length out₀) i h)
 
-  module _ (i : ℕ) (state : Pending) (at : ℕ) (out : List ℕ) (f : FedTo p chunk out₀ i state at out) (in_chunk : i < length chunk) where
-    next_fits : at + length (says_of state (get_or chunk i 0)) ≤ length out₀
-    next_fits = omega (arith, f.low, f.room, says_bound state (get_or chunk i 0))
+  module _ (i : ℕ) (state : Pending) (at : ℕ) (out : List ℕ) (f : FedTo p chunk out₀ i state at out) (in_chunk : i < length chunk) (room : i < room_for (length out₀)) where
+    pub next_fits : at + length (says_of state (get_or chunk i 0)) ≤ length out₀
+    next_fits =
+        rw (f.at_is, f.state_is)
+        (omega (
+          arith,
+          written_bound p (take i chunk),
+          says_bound (after p (take i chunk)) (get_or chunk i 0),
+          length-take i chunk,
+        ))
 
     pub fed_more : (next : Pending) (len : ℕ) (part : List ℕ) → next ≡ next_of state (get_or chunk i 0) → len ≡ length (says_of state (get_or chunk i 0)) → part ≡ over (says_of state (get_or chunk i 0)) (mid_of at (length out - at) out) → FedTo p chunk out₀ (i + 1) next (at + len) (put_mid at (length out - at) out part)
     unfolding after written
@@ -75,8 +86,6 @@ module _ (p : Pending) (chunk out₀ : List ℕ) where
         ∙ ap (λ (l : List ℕ). written p s ++ l) (append-nil (says_of (after p s) b) ∙ ap (λ (q : Pending). says_of q b) (sym f.state_is)) in
         let same : length out ≡ length out₀ = fed_length i state at out f (omega arith) in
         record {
-          room = f.room;
-          low = omega (arith, f.low, says_bound state b, ap held e, g);
           state_is = e ∙ ap (λ (q : Pending). next_of q b) f.state_is ∙ sym (ap (after p) more ∙ after_append p s (b ∷ []));
           at_is = omega (arith, ap length wrote ∙ length-append (written p s) says, f.at_is);
           out_is =
@@ -84,6 +93,18 @@ module _ (p : Pending) (chunk out₀ : List ℕ) where
               ∙ over_rest (written p s) says out₀ at k (sym f.at_is) (omega (arith, next_fits, f.at_is)) (omega arith)
               ∙ ap (λ (l : List ℕ). over l out₀) (sym wrote);
         }
+
+  -- ---- the same with the room
+
+  pub feeding_none : length chunk ≤ room_for (length out₀) → Feeding p chunk out₀ 0 p 0 out₀
+  feeding_none h = record { room = h; low = omega arith; fed = fed_none }
+
+  pub feeding_more : (i : ℕ) (state : Pending) (at : ℕ) (out : List ℕ) → Feeding p chunk out₀ i state at out → i < length chunk → (next : Pending) (len : ℕ) (part : List ℕ) → next ≡ next_of state (get_or chunk i 0) → len ≡ length (says_of state (get_or chunk i 0)) → part ≡ over (says_of state (get_or chunk i 0)) (mid_of at (length out - at) out) → Feeding p chunk out₀ (i + 1) next (at + len) (put_mid at (length out - at) out part)
+  feeding_more i state at out f in_chunk next len part e g h = record {
+    room = f.room;
+    low = omega (arith, f.low, says_bound state (get_or chunk i 0), ap held e, g);
+    fed = fed_more i state at out f.fed in_chunk (omega (arith, f.room)) next len part e g h;
+  }
 
 -- all of the bytes for which there is room
 pub fed_all : (p : Pending) (chunk out₀ : List ℕ) (n i : ℕ) (state : Pending) (at : ℕ) (out : List ℕ) → FedTo p (take n chunk) out₀ i state at out → length (take n chunk) ≤ i → n ≡ min (length chunk) (room_for (length out₀)) → record { value : record { pending = state; len = at; used = n } ≡ fed_of p chunk (length out₀); out_after : out ≡ over (written p (taken chunk (length out₀))) out₀ }

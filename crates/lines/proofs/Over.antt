@@ -17,6 +17,17 @@ pub over_none : (out : List ℕ) → over [] out ≡ out
 unfolding over
 over_none out = refl
 
+-- what a call gives and leaves that lays bytes over the start of a buffer: their count, and the buffer with them
+abbrev pub Laid : ℕ → List ℕ → List ℕ → List ℕ → Type 0
+Laid r o out l = record { value : r ≡ length l; out_after : o ≡ over l out }
+
+-- the same, where the bytes have another name
+pub over_as : (r : ℕ) (o out : List ℕ) {l k : List ℕ} → l ≡ k → Laid r o out l → Laid r o out k
+over_as r o out e h = record {
+  value = h.value ∙ ap length e;
+  out_after = h.out_after ∙ ap (λ (x : List ℕ). over x out) e;
+}
+
 -- what a copy to the first n bytes leaves
 pub over_copy : (w out part : List ℕ) (n : ℕ) → part ≡ w → length w ≡ n → part ++ post_of 0 n out ≡ over w out
 unfolding over

@@ -12,10 +12,15 @@ use refusal::Refusal;
 use std::io;
 use std::io::{ErrorKind, Read, Write};
 
-// A space and a set in 16 digits; no refusal is recorded.
+// A space and a set in 16 digits, in two writes: a number is not cut where a write fails. No refusal is recorded.
 fn set<W: Write>(out: &mut W, answer: Result<u64, Refusal>) -> io::Result<()> {
     match answer {
-        Ok(squares) => write!(out, " {squares:016X}"),
+        Ok(squares) => {
+            let mut digits = [0u8; 16];
+            write!(&mut digits[..], "{squares:016X}")?;
+            out.write_all(b" ")?;
+            out.write_all(&digits)
+        }
         Err(_) => out.write_all(b" refused"),
     }
 }
