@@ -12,7 +12,7 @@ use refusal::Refusal;
 use std::io;
 use std::io::{ErrorKind, Read, Write};
 
-// A space and a set in 16 digits, in two writes: a number is not cut where a write fails. No refusal is recorded.
+// A space and a set in 16 digits, in two writes: the digits go out together. No refusal is recorded.
 fn set<W: Write>(out: &mut W, answer: Result<u64, Refusal>) -> io::Result<()> {
     match answer {
         Ok(squares) => {
